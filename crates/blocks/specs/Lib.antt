@@ -1,0 +1,4 @@
+pub mod Check
+pub mod Sealing
+pub mod Opening
+pub mod Laws
