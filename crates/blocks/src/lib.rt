@@ -16,7 +16,7 @@ pub use opening::unpack;
 pub use sealing::pack;
 
 // The bytes of a block.
-const BLOCK: usize = 512;
+pub const BLOCK: usize = 512;
 
 // The bytes of a block before its check.
 const FRONT: usize = 508;
@@ -28,10 +28,10 @@ const HEADER: usize = 4;
 const PAYLOAD: usize = 504;
 
 // The bytes of the longest stream: 128 payloads.
-const LONGEST_STREAM: usize = 64_512;
+pub const LONGEST_STREAM: usize = 64_512;
 
 // The bytes of the longest sheet: 128 blocks.
-const LONGEST_SHEET: usize = 65_536;
+pub const LONGEST_SHEET: usize = 65_536;
 
 // The remainder of the check's sum is taken by this prime.
 const CHECK_MODULUS: u32 = 65_521;

@@ -1,4 +1,7 @@
 // Examples of sealing and opening, and every refusal at its place.
+use crate::BLOCK;
+use crate::LONGEST_SHEET;
+use crate::LONGEST_STREAM;
 use crate::check;
 use crate::pack;
 use crate::unpack;
@@ -10,9 +13,11 @@ use std::test::Fail;
 use std::test::check as holds;
 use std::test::check_eq;
 
-const STREAM: usize = 64_513;
+// One byte more than the longest stream.
+const STREAM: usize = LONGEST_STREAM + 1;
 
-const SHEET: usize = 65_536;
+// One block more than the longest sheet.
+const OVERLONG_SHEET: usize = LONGEST_SHEET + BLOCK;
 
 // What a buffer holds before a call.
 const OLD: u8 = 0xee;
@@ -67,10 +72,10 @@ fn open_altered(bytes: &[(usize, u8)], resealed: &[usize]) -> Result<usize, Faul
 // A stream of that length is sealed into so many bytes, and opens to itself.
 fn round_trip(length: usize, size: usize) -> Result<(), Fail> {
     let all = stream();
-    let mut sheet = [OLD; SHEET];
+    let mut sheet = [OLD; LONGEST_SHEET];
     let mut out = [OLD; STREAM];
     holds(length <= STREAM)?;
-    holds(size <= SHEET)?;
+    holds(size <= LONGEST_SHEET)?;
     check_eq(pack(&all[0..length], &mut sheet), Ok(size))?;
     check_eq(unpack(&sheet[0..size], &mut out), Ok(length))?;
     holds(&out[0..length] == &all[0..length])?;
@@ -123,7 +128,7 @@ fn packing_is_declined() -> Result<(), Fail> {
 
 #[test]
 fn opening_wants_whole_blocks() -> Result<(), Fail> {
-    let sheet = [0u8; SHEET + 512];
+    let sheet = [0u8; OVERLONG_SHEET];
     let mut out = [OLD; 600];
     check_eq(
         unpack(&sheet[0..0], &mut out),

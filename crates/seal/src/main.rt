@@ -5,6 +5,9 @@ mod sealing;
 #[cfg(test)]
 mod tests;
 
+use blocks::BLOCK;
+use blocks::LONGEST_SHEET;
+use blocks::LONGEST_STREAM;
 use failure::Failure;
 use failure::FailureDisplay;
 use sealing::seal_stream;
@@ -21,11 +24,7 @@ Seals the stream in the file STREAM, at most 64512 bytes, into blocks of 512 byt
 opens the blocks again to compare, and writes them to the file SHEET.";
 
 // One byte more than the longest stream, which is enough to see that a stream is too long.
-const READ_LIMIT: u64 = 64_513;
-
-const BLOCK: usize = 512;
-
-const LONGEST_SHEET: usize = 65_536;
+const READ_LIMIT: u64 = LONGEST_STREAM as u64 + 1;
 
 // The program ends with status 1; what was wrong is on standard error.
 #[derive(Drop)]

@@ -10,13 +10,12 @@ ghost use Rattle.blocks.specs.Opening.{opened};
 ghost use Rattle.blocks.specs.Sealing.{packing};
 ghost use Rattle.seal.specs.declared.sealing.Unsealed.the-variants.{Declined};
 ghost use Rattle.seal.specs.Sealed.{sealedAs};
+use blocks::LONGEST_STREAM;
 use blocks::pack;
 use blocks::unpack;
 use refusal::Fault;
 use refusal::FaultDebug;
 use std::fmt;
-
-const LONGEST_STREAM: usize = 64_512;
 
 // Why a stream was not sealed.
 #[derive(Clone, Copy, Debug)]
