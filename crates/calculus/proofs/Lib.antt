@@ -1,0 +1,12 @@
+pub mod Pointers
+pub mod Renamed
+pub mod Written
+pub mod Sorted
+pub mod Preserved
+pub mod Sound
+pub mod Complete
+pub mod Places
+pub mod Played
+pub mod Sanity
+pub mod Examples
+pub mod Offered

@@ -1,0 +1,11 @@
+pub mod Trees
+pub mod Names
+pub mod Laws
+pub mod Congruence
+pub mod Reduction
+pub mod Contexts
+pub mod Steps
+pub mod Sorts
+pub mod Playing
+pub mod Examples
+pub mod Offers
