@@ -1,16 +1,15 @@
 -- Reductions are steps: what reduces in k reductions is reached by a list of single steps with k communications.
-use mathlib.Core.Path.{_≡_, refl, sym, ap, subst₂, _∙_}
+use mathlib.Core.Path.{_≡_, refl, ap, subst₂, _∙_}
 use mathlib.Core.Bool.{true}
 use mathlib.Core.List.{List, [], _∷_, _++_}
-use Prim.Native.Nat.{ℕ, zero, suc, _+_}
+use Prim.Native.Nat.{ℕ, suc, _+_}
 use native.Mathlib.Omega.{arith}
-use Rattle.std.specs.declared.option.Option.{Option}
 use Rattle.calculus.specs.Trees.{Process, parallel, output, input, choice, restriction, replication}
-use Rattle.calculus.specs.Laws.{Law, Instance}
+use Rattle.calculus.specs.Laws.{Law}
 use Rattle.calculus.specs.Congruence.{Congruent, by-law, same, turned, joined, outputs, inputs, choices, parallels, restrictions, replications}
 use Rattle.calculus.specs.Reduction.{Communicates, Reduces, by-communication, beside, under-restriction, up-to-congruence, InReductions, in-none, in-one-more}
-use Rattle.calculus.specs.Contexts.{Context, hole, below-output, below-input, in-left-arm, in-right-arm, in-left-part, in-right-part, below-restriction, below-replication, fill, active, before, place}
-use Rattle.calculus.specs.Steps.{Direction, forth, back, Lawful, read-forth, read-back, Label, law-at, communication-at, Step, law-step, communication-step, Steps, no-step, one-step, communications}
+use Rattle.calculus.specs.Contexts.{Context, hole, below-output, below-input, in-left-arm, in-right-arm, in-left-part, in-right-part, below-restriction, below-replication, fill, active, place}
+use Rattle.calculus.specs.Steps.{Direction, back, Lawful, read-forth, read-back, Label, law-at, communication-at, Step, law-step, communication-step, Steps, no-step, one-step, communications}
 
 -- a context in the hole of another
 pub within : Context → Context → Context

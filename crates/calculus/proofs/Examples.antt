@@ -9,9 +9,10 @@ use Rattle.std.specs.declared.option.Option.{Option}
 use Rattle.std.specs.declared.option.Option.the-variants.{None, Some}
 use Rattle.calculus.specs.Trees.{Process, write}
 use Rattle.calculus.specs.Laws.{parallel-commutes, parallel-regroups, parallel-with-nothing, choice-commutes, choice-regroups, choice-with-nothing, restrictions-trade-places, restriction-of-nothing, replication-unfolds, scope-extrudes}
+use Rattle.calculus.specs.Contexts.{Context}
 use Rattle.calculus.specs.Steps.{forth, back, Label, law-at, communication-at}
 use Rattle.calculus.specs.Sorts.{Sorting, sortOf, carriedBy, isSort, haveSorts, carriesSo, respects}
-use Rattle.calculus.specs.Playing.{andThen, played}
+use Rattle.calculus.specs.Playing.{andThen, nodeAt, played}
 use Rattle.calculus.proofs.Written.{readBack}
 use Rattle.calculus.proofs.Sanity.{plays}
 
@@ -105,6 +106,18 @@ check-communicating = refl
 check-declined : map found declined ≡ map told declined
 unfolding declined found told process readBack plays
 check-declined = refl
+
+-- where the nodes of a term begin
+isNode : Option (Context × Process) → Bool
+isNode None = false
+isNode (Some found) = true
+
+nodesOf : List ℕ → List Bool
+nodesOf ns = map (λ n. isNode (nodeAt n (process ns))) (0 ∷ 1 ∷ 2 ∷ 3 ∷ 4 ∷ 5 ∷ 6 ∷ 7 ∷ 8 ∷ 9 ∷ 10 ∷ [])
+
+check-nodes : nodesOf (4 ∷ 1 ∷ 0 ∷ 1 ∷ 1 ∷ 0 ∷ 2 ∷ 0 ∷ 1 ∷ 0 ∷ []) ≡ true ∷ true ∷ false ∷ false ∷ false ∷ true ∷ true ∷ false ∷ false ∷ true ∷ false ∷ []
+unfolding nodesOf isNode process readBack plays
+check-nodes = refl
 
 -- a sorting in which sort 0 carries one 0 and all others nothing; sort 3 carries two
 simple : Sorting

@@ -2,13 +2,13 @@
 use mathlib.Core.Path.{_≡_, refl, sym, ap, ap₂, _∙_}
 use mathlib.Core.Bool.{Bool, true, false, false≢true, _||_}
 use mathlib.Core.List.{List}
-use Prim.Native.Nat.{ℕ, suc, _+_}
+use Prim.Native.Nat.{ℕ, suc}
 use Rattle.std.specs.declared.option.Option.{Option}
 use Rattle.calculus.specs.Trees.{Process, terminated, output, input, choice, parallel, restriction, replication}
 use Rattle.calculus.specs.Names.{rename, raise, exchange}
 use Rattle.calculus.specs.Laws.{Law, Instance, commuting-parts, regrouping-parts, part-of-nothing, commuting-arms, regrouping-arms, arm-of-nothing, trading-places, restricting-nothing, unfolding-once, extruding}
 use Rattle.calculus.specs.Congruence.{Congruent, by-law, same, turned, joined, outputs, inputs, choices, parallels, restrictions, replications}
-use Rattle.calculus.specs.Reduction.{Sends, sends-alone, sends-in-choice, Receives, receives-alone, receives-in-choice, Communicates, communicates, Reduces, by-communication, beside, under-restriction, up-to-congruence}
+use Rattle.calculus.specs.Reduction.{Sends, sends-alone, sends-in-choice, Receives, receives-alone, receives-in-choice, communicates, Reduces, by-communication, beside, under-restriction, up-to-congruence}
 use Rattle.calculus.specs.Offers.{Action, sending, receiving, isSending, isReceiving, offers}
 
 or-commutes : (a b : Bool) → (a || b) ≡ (b || a)

@@ -1,8 +1,7 @@
 -- Places: the writing around a node, and that a place in the writing belongs to one node only.
 use mathlib.Core.Path.{_≡_, refl, sym, ap, ap₂, _∙_}
 use mathlib.Core.Bool.{Bool, true, false, cond}
-use mathlib.Core.List.{List, [], _∷_, _++_}
-use mathlib.Core.Logic.{_⊎_, inl, inr}
+use mathlib.Core.List.{List, _∷_, _++_}
 use Prim.Native.Nat.{ℕ, zero, suc, _+_, _-_, _<_}
 use native.Mathlib.Omega.{arith}
 use lib.Dec.{ltb}
@@ -38,9 +37,9 @@ place-within c p =
     let whole : length (write (fill c p)) ≡ length (before c ++ (write p ++ after c)) = ap length (write-fill c p) in
     omega (arith, length-append (before c) (write p ++ after c), length-append (write p) (after c), written-some p)
 
-below-found : (above : Context → Context) (found : Option (Context × Process)) (c : Context) (p : Process) → found ≡ Some (c, p) → below above found ≡ Some (above c, p)
+below-is : (above : Context → Context) (found : Option (Context × Process)) (c : Context) (p : Process) → found ≡ Some (c, p) → below above found ≡ Some (above c, p)
 unfolding below andThen
-below-found above found c p e = ap (λ (o : Option (Context × Process)). andThen o (λ (x : Context × Process). Some (above (x .0), x .1))) e
+below-is above found c p e = ap (λ (o : Option (Context × Process)). andThen o (λ (x : Context × Process). Some (above (x .0), x .1))) e
 
 -- a test that a choice of values hangs on
 when-true : {A : Type 0} (b : Bool) (x y : A) → b ≡ true → cond b x y ≡ x
@@ -57,32 +56,32 @@ nodeAt-fill (below-output s os c) p =
     let sum : length (os ++ before c) ≡ length os + length (before c) = length-append os (before c) in
     let far : ltb (suc (suc (length (os ++ before c)))) (2 + length os) ≡ false = grind (arith, tells) in
     let rest : suc (suc (length (os ++ before c))) - (2 + length os) ≡ length (before c) = omega arith in
-    when-false _ _ _ far ∙ below-found (below-output s os) _ c p (ap (λ (k : ℕ). nodeAt k (fill c p)) rest ∙ nodeAt-fill c p)
+    when-false _ _ _ far ∙ below-is (below-output s os) _ c p (ap (λ (k : ℕ). nodeAt k (fill c p)) rest ∙ nodeAt-fill c p)
 nodeAt-fill (below-input s n c) p =
     let far : ltb (suc (suc (length (before c)))) 2 ≡ false = grind (arith, tells) in
     let rest : suc (suc (length (before c))) - 2 ≡ length (before c) = omega arith in
-    when-false _ _ _ far ∙ below-found (below-input s n) _ c p (ap (λ (k : ℕ). nodeAt k (fill c p)) rest ∙ nodeAt-fill c p)
+    when-false _ _ _ far ∙ below-is (below-input s n) _ c p (ap (λ (k : ℕ). nodeAt k (fill c p)) rest ∙ nodeAt-fill c p)
 nodeAt-fill (in-left-arm c q) p =
     let near : ltb (length (before c)) (length (write (fill c p))) ≡ true = grind (arith, tells, place-within c p) in
-    when-true _ _ _ near ∙ below-found (λ d. in-left-arm d q) _ c p (nodeAt-fill c p)
+    when-true _ _ _ near ∙ below-is (λ d. in-left-arm d q) _ c p (nodeAt-fill c p)
 nodeAt-fill (in-right-arm q c) p =
     let sum : length (write q ++ before c) ≡ length (write q) + length (before c) = length-append (write q) (before c) in
     let far : ltb (length (write q ++ before c)) (length (write q)) ≡ false = grind (arith, tells) in
     let rest : length (write q ++ before c) - length (write q) ≡ length (before c) = omega arith in
-    when-false _ _ _ far ∙ below-found (in-right-arm q) _ c p (ap (λ (k : ℕ). nodeAt k (fill c p)) rest ∙ nodeAt-fill c p)
+    when-false _ _ _ far ∙ below-is (in-right-arm q) _ c p (ap (λ (k : ℕ). nodeAt k (fill c p)) rest ∙ nodeAt-fill c p)
 nodeAt-fill (in-left-part c q) p =
     let near : ltb (length (before c)) (length (write (fill c p))) ≡ true = grind (arith, tells, place-within c p) in
-    when-true _ _ _ near ∙ below-found (λ d. in-left-part d q) _ c p (nodeAt-fill c p)
+    when-true _ _ _ near ∙ below-is (λ d. in-left-part d q) _ c p (nodeAt-fill c p)
 nodeAt-fill (in-right-part q c) p =
     let sum : length (write q ++ before c) ≡ length (write q) + length (before c) = length-append (write q) (before c) in
     let far : ltb (length (write q ++ before c)) (length (write q)) ≡ false = grind (arith, tells) in
     let rest : length (write q ++ before c) - length (write q) ≡ length (before c) = omega arith in
-    when-false _ _ _ far ∙ below-found (in-right-part q) _ c p (ap (λ (k : ℕ). nodeAt k (fill c p)) rest ∙ nodeAt-fill c p)
+    when-false _ _ _ far ∙ below-is (in-right-part q) _ c p (ap (λ (k : ℕ). nodeAt k (fill c p)) rest ∙ nodeAt-fill c p)
 nodeAt-fill (below-restriction s c) p =
     let far : ltb (suc (length (before c))) 1 ≡ false = grind (arith, tells) in
     let rest : suc (length (before c)) - 1 ≡ length (before c) = omega arith in
-    when-false _ _ _ far ∙ below-found (below-restriction s) _ c p (ap (λ (k : ℕ). nodeAt k (fill c p)) rest ∙ nodeAt-fill c p)
-nodeAt-fill (below-replication c) p = below-found below-replication _ c p (nodeAt-fill c p)
+    when-false _ _ _ far ∙ below-is (below-restriction s) _ c p (ap (λ (k : ℕ). nodeAt k (fill c p)) rest ∙ nodeAt-fill c p)
+nodeAt-fill (below-replication c) p = below-is below-replication _ c p (nodeAt-fill c p)
 
 pub some-is : {A : Type 0} (a b : A) → _≡_ {A = Option A} (Some a) (Some b) → a ≡ b
 some-is a b e = cc
@@ -100,7 +99,7 @@ one-place c d p q e at =
     (ap (λ (x : Context × Process). x .0) both, ap (λ (x : Context × Process). x .1) both)
 
 -- what is found at a place stands there
-abbrev Stands : ℕ → Process → Context × Process → Type 0
+abbrev pub Stands : ℕ → Process → Context × Process → Type 0
 Stands n t x = (fill (x .0) (x .1) ≡ t) × (place (x .0) ≡ n)
 
 found-below : (above : Context → Context) (found : Option (Context × Process)) (x : Context × Process) → below above found ≡ Some x → (d : Context) × (found ≡ Some (d, x .1)) × (above d ≡ x .0)
@@ -110,7 +109,7 @@ found-below above (Some (d, q)) x e =
     let is : _≡_ {A = Context × Process} (above d, q) x = some-is _ _ e in
     (d, ap (λ (y : Context × Process). Some (d, y .1)) is, ap (λ (y : Context × Process). y .0) is)
 
-none-or : {A : Type 0} (b : Bool) (o : Option A) (x : A) → cond b None o ≡ Some x → (b ≡ false) × (o ≡ Some x)
+pub none-or : {A : Type 0} (b : Bool) (o : Option A) (x : A) → cond b None o ≡ Some x → (b ≡ false) × (o ≡ Some x)
 none-or true o x e = absurd (none-some x e)
 none-or false o x e = (refl, e)
 
@@ -123,9 +122,17 @@ stands-below above wrap w n m p filled placed sum inner x e =
     let (same, at) = inner (d, x .1) found in
     (ap (λ (c : Context). fill c (x .1)) (sym is) ∙ filled d (x .1) ∙ ap wrap same, ap place (sym is) ∙ placed d ∙ ap (λ (k : ℕ). w + k) at ∙ sum)
 
-either-side : {A : Type 0} (b : Bool) (l r : Option A) (x : A) → cond b l r ≡ Some x → ((b ≡ true) × (l ≡ Some x)) ⊎ ((b ≡ false) × (r ≡ Some x))
-either-side true l r x e = inl (refl, e)
-either-side false l r x e = inr (refl, e)
+-- in one of two parts, of which the first takes as many numbers as it is written with
+in-parts : (node : Process → Process → Process) (left : Context → Process → Context) (right : Process → Context → Context) (n : ℕ) (p q : Process) →
+    ((d : Context) (r : Process) → fill (left d q) r ≡ node (fill d r) q) → ((d : Context) (r : Process) → fill (right p d) r ≡ node p (fill d r)) →
+    ((d : Context) → place (left d q) ≡ 1 + place d) → ((d : Context) → place (right p d) ≡ suc (length (write p)) + place d) →
+    ((y : Context × Process) → nodeAt n p ≡ Some y → Stands n p y) → ((y : Context × Process) → nodeAt (n - length (write p)) q ≡ Some y → Stands (n - length (write p)) q y) →
+    (x : Context × Process) (b : Bool) → ltb n (length (write p)) ≡ b → cond b (below (λ d. left d q) (nodeAt n p)) (below (right p) (nodeAt (n - length (write p)) q)) ≡ Some x → Stands (suc n) (node p q) x
+in-parts node left right n p q filled-left filled-right placed-left placed-right in-left in-right x true near e =
+    stands-below (λ d. left d q) (λ t. node t q) 1 (suc n) n p filled-left placed-left (omega arith) in-left x e
+in-parts node left right n p q filled-left filled-right placed-left placed-right in-left in-right x false far e =
+    let sum : suc (length (write p)) + (n - length (write p)) ≡ suc n = grind (arith, tells) in
+    stands-below (right p) (node p) (suc (length (write p))) (suc n) (n - length (write p)) q filled-right placed-right sum in-right x e
 
 pub nodeAt-finds : (n : ℕ) (t : Process) (x : Context × Process) → nodeAt n t ≡ Some x → Stands n t x
 unfolding nodeAt fill before
@@ -143,22 +150,12 @@ nodeAt-finds (suc n) (input s k p) x e =
     let (far, inner) = none-or (ltb n 2) _ x e in
     let sum : 3 + (n - 2) ≡ suc n = grind (arith, tells) in
     stands-below (below-input s k) (input s k) 3 (suc n) (n - 2) p (λ d q. refl) (λ d. omega arith) sum (λ y f. nodeAt-finds (n - 2) p y f) x inner
-nodeAt-finds (suc n) (choice p q) x e = side (either-side (ltb n (length (write p))) _ _ x e) (λ y f. nodeAt-finds n p y f) (λ y f. nodeAt-finds (n - length (write p)) q y f)
-  where
-    side : ((ltb n (length (write p)) ≡ true) × (below (λ c. in-left-arm c q) (nodeAt n p) ≡ Some x)) ⊎ ((ltb n (length (write p)) ≡ false) × (below (in-right-arm p) (nodeAt (n - length (write p)) q) ≡ Some x)) →
-        ((y : Context × Process) → nodeAt n p ≡ Some y → Stands n p y) → ((y : Context × Process) → nodeAt (n - length (write p)) q ≡ Some y → Stands (n - length (write p)) q y) → Stands (suc n) (choice p q) x
-    side (inl (near, inner)) left right = stands-below (λ c. in-left-arm c q) (λ t. choice t q) 1 (suc n) n p (λ d r. refl) (λ d. omega arith) (omega arith) left x inner
-    side (inr (far, inner)) left right =
-        let sum : suc (length (write p)) + (n - length (write p)) ≡ suc n = grind (arith, tells) in
-        stands-below (in-right-arm p) (choice p) (suc (length (write p))) (suc n) (n - length (write p)) q (λ d r. refl) (λ d. omega (arith, length-append (write p) (before d))) sum right x inner
-nodeAt-finds (suc n) (parallel p q) x e = side (either-side (ltb n (length (write p))) _ _ x e) (λ y f. nodeAt-finds n p y f) (λ y f. nodeAt-finds (n - length (write p)) q y f)
-  where
-    side : ((ltb n (length (write p)) ≡ true) × (below (λ c. in-left-part c q) (nodeAt n p) ≡ Some x)) ⊎ ((ltb n (length (write p)) ≡ false) × (below (in-right-part p) (nodeAt (n - length (write p)) q) ≡ Some x)) →
-        ((y : Context × Process) → nodeAt n p ≡ Some y → Stands n p y) → ((y : Context × Process) → nodeAt (n - length (write p)) q ≡ Some y → Stands (n - length (write p)) q y) → Stands (suc n) (parallel p q) x
-    side (inl (near, inner)) left right = stands-below (λ c. in-left-part c q) (λ t. parallel t q) 1 (suc n) n p (λ d r. refl) (λ d. omega arith) (omega arith) left x inner
-    side (inr (far, inner)) left right =
-        let sum : suc (length (write p)) + (n - length (write p)) ≡ suc n = grind (arith, tells) in
-        stands-below (in-right-part p) (parallel p) (suc (length (write p))) (suc n) (n - length (write p)) q (λ d r. refl) (λ d. omega (arith, length-append (write p) (before d))) sum right x inner
+nodeAt-finds (suc n) (choice p q) x e =
+    in-parts choice in-left-arm in-right-arm n p q (λ d s. refl) (λ d s. refl) (λ d. omega arith) (λ d. omega (arith, length-append (write p) (before d)))
+    (λ y f. nodeAt-finds n p y f) (λ y f. nodeAt-finds (n - length (write p)) q y f) x (ltb n (length (write p))) refl e
+nodeAt-finds (suc n) (parallel p q) x e =
+    in-parts parallel in-left-part in-right-part n p q (λ d s. refl) (λ d s. refl) (λ d. omega arith) (λ d. omega (arith, length-append (write p) (before d)))
+    (λ y f. nodeAt-finds n p y f) (λ y f. nodeAt-finds (n - length (write p)) q y f) x (ltb n (length (write p))) refl e
 nodeAt-finds (suc n) (restriction s p) x e =
     let (far, inner) = none-or (ltb n 1) _ x e in
     let sum : 2 + (n - 1) ≡ suc n = grind (arith, tells) in

@@ -3,14 +3,13 @@ use mathlib.Core.Path.{_≡_, refl, sym, ap, ap₂, subst, subst₂, _∙_}
 use mathlib.Core.Bool.{Bool, true, false, cond, _&&_}
 use mathlib.Core.List.{List, [], _∷_}
 use Prim.Native.Nat.{ℕ}
-use native.Mathlib.Omega.{arith}
 use lib.Dec.{eqb}
 use lib.ListN.{length}
 use Rattle.std.specs.declared.option.Option.{Option}
 use Rattle.std.specs.declared.option.Option.the-variants.{None, Some}
 use Rattle.std.proofs.shelf.Ways.{decides-eqb}
 use Rattle.calculus.specs.Trees.{Process, terminated, output, input, choice, parallel, restriction, replication, write}
-use Rattle.calculus.specs.Names.{raise, lower, exchange, raised, lowered, exchanged, sent, free}
+use Rattle.calculus.specs.Names.{raised, lowered, exchanged, sent, free}
 use Rattle.calculus.specs.Laws.{Law, parallel-commutes, parallel-regroups, parallel-with-nothing, choice-commutes, choice-regroups, choice-with-nothing, restrictions-trade-places, restriction-of-nothing, replication-unfolds, scope-extrudes, Instance, commuting-parts, regrouping-parts, part-of-nothing, commuting-arms, regrouping-arms, arm-of-nothing, trading-places, restricting-nothing, unfolding-once, extruding}
 use Rattle.calculus.specs.Reduction.{Sends, sends-alone, sends-in-choice, Receives, receives-alone, receives-in-choice, Communicates, communicates}
 use Rattle.calculus.specs.Contexts.{Context, fill, active, place}
@@ -19,7 +18,7 @@ use Rattle.calculus.specs.Playing.{andThen, only, nothing, partsOf, armsOf, re
 use Rattle.calculus.proofs.Renamed.{lowered-raised, raised-lowered, raised-misses, exchanged-twice}
 use Rattle.calculus.proofs.Written.{injective}
 use Rattle.calculus.proofs.Sorted.{both-left, both-right}
-use Rattle.calculus.proofs.Places.{some-is, none-some, nodeAt-fill, nodeAt-finds}
+use Rattle.calculus.proofs.Places.{some-is, none-some, none-or, nodeAt-fill, nodeAt-finds}
 
 -- what was gone on with
 pub went-on : {A B : Type 0} (o : Option A) (go : A → Option B) (b : B) → andThen o go ≡ Some b → (a : A) × (o ≡ Some a) × (go a ≡ Some b)
@@ -195,10 +194,6 @@ forth-instance scope-extrudes t u e =
     let (x, is, go) = went-on (partsOf t) _ u e in
     let (y, was, end) = went-on (restrictedOf (x .1)) _ u go in
     (None, cast t u (extruding (y .0) (x .0) (y .1)) (has-parts t x is ∙ ap (parallel (x .0)) (has-restricted (x .1) y was)) (some-is _ _ end))
-
-none-or : {A : Type 0} (b : Bool) (o : Option A) (x : A) → cond b None o ≡ Some x → (b ≡ false) × (o ≡ Some x)
-none-or true o x e = absurd (none-some x e)
-none-or false o x e = (refl, e)
 
 pub back-instance : (law : Law) (t u : Process) → readBack law t ≡ Some u → Instance law None u t
 unfolding readBack

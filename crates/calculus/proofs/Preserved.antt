@@ -1,13 +1,13 @@
 -- Sorts are preserved: by each law in both directions, by communication, at any place.
 use mathlib.Core.Path.{_≡_, refl, sym, ap, ap₂, _∙_}
 use mathlib.Core.Bool.{Bool, true, false, _&&_}
-use mathlib.Core.List.{List, [], _∷_, _++_}
-use Prim.Native.Nat.{ℕ, zero, suc}
+use mathlib.Core.List.{List, _∷_, _++_}
+use Prim.Native.Nat.{ℕ}
 use lib.Dec.{eqb}
 use lib.ListN.{length}
 use Rattle.std.specs.declared.option.Option.{Option}
 use Rattle.std.specs.declared.option.Option.the-variants.{None, Some}
-use Rattle.calculus.specs.Trees.{Process, terminated, output, input, choice, parallel, restriction, replication}
+use Rattle.calculus.specs.Trees.{Process}
 use Rattle.calculus.specs.Names.{raise, exchange, send, sent}
 use Rattle.calculus.specs.Laws.{Law, Instance, commuting-parts, regrouping-parts, part-of-nothing, commuting-arms, regrouping-arms, arm-of-nothing, trading-places, restricting-nothing, unfolding-once, extruding}
 use Rattle.calculus.specs.Congruence.{Congruent, by-law, same, turned, joined, outputs, inputs, choices, parallels, restrictions, replications}

@@ -1,9 +1,8 @@
 -- Renaming a tree, and renaming it back.
-use mathlib.Core.Path.{_≡_, refl, ap, ap₂, _∙_}
+use mathlib.Core.Path.{_≡_, refl, ap, ap₂}
 use mathlib.Core.Bool.{Bool, true, false, _||_}
 use mathlib.Core.List.{List, [], _∷_, map}
 use Prim.Native.Nat.{ℕ, suc, _+_}
-use native.Mathlib.Omega.{arith}
 use lib.Dec.{eqb}
 use Rattle.calculus.specs.Trees.{Process, terminated, output, input, choice, parallel, restriction, replication}
 use Rattle.calculus.specs.Names.{rename, raise, lower, exchange, among, free}

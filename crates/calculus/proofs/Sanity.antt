@@ -1,14 +1,13 @@
 -- Small truths that the definitions have to give: an unused restriction, two senders, places that are not active.
-use mathlib.Core.Path.{_≡_, refl, ap, subst, _∙_, sym}
-use mathlib.Core.Bool.{Bool, true, false, cond, false≢true, true≢false}
+use mathlib.Core.Path.{_≡_, refl, subst, _∙_, sym}
+use mathlib.Core.Bool.{Bool, true, false, false≢true, true≢false}
 use mathlib.Core.List.{List, [], _∷_}
 use Prim.Native.Nat.{ℕ, zero, suc}
-use lib.Dec.{eqb}
 use Rattle.std.specs.declared.option.Option.{Option}
 use Rattle.std.specs.declared.option.Option.the-variants.{None, Some}
 use Rattle.calculus.specs.Trees.{Process, terminated, output, input, choice, parallel, restriction, replication, write}
 use Rattle.calculus.specs.Names.{rename, raise, lower, exchange, send, among, free, raised, lowered}
-use Rattle.calculus.specs.Laws.{Law, parallel-commutes, parallel-regroups, commuting-parts, part-of-nothing, restricting-nothing, extruding}
+use Rattle.calculus.specs.Laws.{parallel-commutes, parallel-regroups, part-of-nothing, restricting-nothing, extruding}
 use Rattle.calculus.specs.Congruence.{Congruent, by-law, same, turned, joined, parallels, restrictions}
 use Rattle.calculus.specs.Reduction.{Communicates, communicates, InReductions}
 use Rattle.calculus.specs.Contexts.{Context, hole, below-output, below-input, in-left-arm, in-right-arm, in-left-part, in-right-part, below-restriction, below-replication, fill, active}

@@ -8,7 +8,7 @@ use Rattle.calculus.specs.Laws.{Law, commuting-parts}
 use Rattle.calculus.specs.Congruence.{Congruent, by-law, same, turned, joined, outputs, inputs, choices, parallels, restrictions, replications}
 use Rattle.calculus.specs.Reduction.{Reduces, by-communication, beside, under-restriction, up-to-congruence, InReductions, in-none, in-one-more}
 use Rattle.calculus.specs.Contexts.{Context, hole, below-output, below-input, in-left-arm, in-right-arm, in-left-part, in-right-part, below-restriction, below-replication, fill, active}
-use Rattle.calculus.specs.Steps.{Direction, Lawful, read-forth, read-back, Label, Step, law-step, communication-step, Steps, no-step, one-step, communications}
+use Rattle.calculus.specs.Steps.{Direction, Lawful, read-forth, read-back, Label, law-step, communication-step, Steps, no-step, one-step, communications}
 
 pub lawful-congruent : {law : Law} {direction : Direction} {p q : Process} → Lawful law direction p q → Congruent p q
 lawful-congruent (read-forth i) = by-law i

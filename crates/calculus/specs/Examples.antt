@@ -1,5 +1,5 @@
 -- A first example of communication: two senders and one receiver on one channel.
-use mathlib.Core.List.{List, [], _∷_}
+use mathlib.Core.List.{[], _∷_}
 use Rattle.calculus.specs.Trees.{Process, terminated, output, input, parallel}
 
 -- with the free names x, y, z, v as pointers 0, 1, 2, 3: (x̄y ∣ x(u).ūv) ∣ x̄z

@@ -1,7 +1,5 @@
 -- What a process can do at once: its prefixes that stand below no other prefix.
-use Prim.Native.Nat.{ℕ}
 use mathlib.Core.Bool.{Bool, true, false, _||_}
-use mathlib.Core.List.{List}
 use Rattle.calculus.specs.Trees.{Process, terminated, output, input, choice, parallel, restriction, replication}
 
 pub data Action : Type 0 where

@@ -1,4 +1,5 @@
--- Single steps as functions: what a label makes of a process, where it makes anything of it.
+-- Single steps as functions: what a label makes of a process, where it makes anything of it. Nothing here has to be
+-- believed: `labels_decide_steps` says that it agrees with the definition of a single step.
 use Prim.Native.Nat.{ℕ, zero, suc, _+_, _-_}
 use mathlib.Core.Bool.{Bool, true, false, cond, _&&_}
 use mathlib.Core.List.{List, [], _∷_}
