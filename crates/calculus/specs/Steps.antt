@@ -14,6 +14,7 @@ pub data Direction : Type 0 where
   forth : Direction
   back : Option ℕ → Direction
 
+-- an instance of a law, read in a direction
 pub data Lawful : Law → Direction → Process → Process → Type 0 where
   read-forth : {law : Law} {lost : Option ℕ} {p q : Process} → Instance law lost p q → Lawful law forth p q
   read-back : {law : Law} {lost : Option ℕ} {p q : Process} → Instance law lost p q → Lawful law (back lost) q p
