@@ -13,11 +13,11 @@ use Rattle.calculus.specs.Contexts.{Context}
 use Rattle.calculus.specs.Steps.{forth, back, Label, law-at, communication-at}
 use Rattle.calculus.specs.Sorts.{Sorting, sortOf, carriedBy, isSort, haveSorts, carriesSo, respects}
 use Rattle.calculus.specs.Playing.{andThen, nodeAt, played}
-use Rattle.calculus.proofs.Written.{readBack}
+use Rattle.calculus.proofs.Written.{readWriting}
 use Rattle.calculus.proofs.Sanity.{plays}
 
 process : List ℕ → Process
-process ns = readBack (length ns) ns .0
+process ns = readWriting (length ns) ns .0
 
 -- a label, a term, and what the label makes of it
 abbrev Row : Type 0
@@ -92,19 +92,19 @@ told r = (r .1, r .2)
 
 -- every term is one, and every label makes of it what the table says
 check-laws : map found laws ≡ map told laws
-unfolding laws found told process readBack plays
+unfolding laws found told process readWriting plays
 check-laws = refl
 
 check-depths : map found depths ≡ map told depths
-unfolding depths found told process readBack plays
+unfolding depths found told process readWriting plays
 check-depths = refl
 
 check-communicating : map found communicating ≡ map told communicating
-unfolding communicating found told process readBack plays
+unfolding communicating found told process readWriting plays
 check-communicating = refl
 
 check-declined : map found declined ≡ map told declined
-unfolding declined found told process readBack plays
+unfolding declined found told process readWriting plays
 check-declined = refl
 
 -- where the nodes of a term begin
@@ -116,7 +116,7 @@ nodesOf : List ℕ → List Bool
 nodesOf ns = map (λ n. isNode (nodeAt n (process ns))) (0 ∷ 1 ∷ 2 ∷ 3 ∷ 4 ∷ 5 ∷ 6 ∷ 7 ∷ 8 ∷ 9 ∷ 10 ∷ [])
 
 check-nodes : nodesOf (4 ∷ 1 ∷ 0 ∷ 1 ∷ 1 ∷ 0 ∷ 2 ∷ 0 ∷ 1 ∷ 0 ∷ []) ≡ true ∷ true ∷ false ∷ false ∷ false ∷ true ∷ true ∷ false ∷ false ∷ true ∷ false ∷ []
-unfolding nodesOf isNode process readBack plays
+unfolding nodesOf isNode process readWriting plays
 check-nodes = refl
 
 -- a sorting in which sort 0 carries one 0 and all others nothing; sort 3 carries two
@@ -138,5 +138,5 @@ asked =
     ∷ []
 
 check-asked : map (λ (a : List ℕ × List ℕ × Bool). respects simple (a .0) (process (a .1))) asked ≡ map (λ (a : List ℕ × List ℕ × Bool). a .2) asked
-unfolding asked simple process readBack respects carriesSo carriedBy haveSorts isSort sortOf
+unfolding asked simple process readWriting respects carriesSo carriedBy haveSorts isSort sortOf
 check-asked = refl

@@ -1,6 +1,6 @@
 -- What reduces offers an output and an input.
 use mathlib.Core.Path.{_≡_, refl, sym, ap, ap₂, _∙_}
-use mathlib.Core.Bool.{Bool, true, false, false≢true, _||_}
+use mathlib.Core.Bool.{Bool, true, false, false≢true, _||_, or-false, or-self, or-assoc, or-comm}
 use mathlib.Core.List.{List}
 use Prim.Native.Nat.{ℕ, suc}
 use Rattle.std.specs.declared.option.Option.{Option}
@@ -10,24 +10,6 @@ use Rattle.calculus.specs.Laws.{Law, Instance, commuting-parts, regrouping-par
 use Rattle.calculus.specs.Congruence.{Congruent, by-law, same, turned, joined, outputs, inputs, choices, parallels, restrictions, replications}
 use Rattle.calculus.specs.Reduction.{Sends, sends-alone, sends-in-choice, Receives, receives-alone, receives-in-choice, communicates, Reduces, by-communication, beside, under-restriction, up-to-congruence}
 use Rattle.calculus.specs.Offers.{Action, sending, receiving, isSending, isReceiving, offers}
-
-or-commutes : (a b : Bool) → (a || b) ≡ (b || a)
-or-commutes true true = refl
-or-commutes true false = refl
-or-commutes false true = refl
-or-commutes false false = refl
-
-or-regroups : (a b c : Bool) → (a || (b || c)) ≡ ((a || b) || c)
-or-regroups true b c = refl
-or-regroups false b c = refl
-
-or-false : (a : Bool) → (a || false) ≡ a
-or-false true = refl
-or-false false = refl
-
-or-twice : (a : Bool) → a ≡ (a || a)
-or-twice true = refl
-or-twice false = refl
 
 or-left : (a b : Bool) → a ≡ true → (a || b) ≡ true
 or-left true b e = refl
@@ -52,15 +34,15 @@ module _ (action : Action) where
   -- nor by a law, nor by a congruence
   pub law-offers : {law : Law} {lost : Option ℕ} {p q : Process} → Instance law lost p q → offers action p ≡ offers action q
   unfolding offers
-  law-offers (commuting-parts p q) = or-commutes (offers action p) (offers action q)
-  law-offers (regrouping-parts p q r) = or-regroups (offers action p) (offers action q) (offers action r)
+  law-offers (commuting-parts p q) = or-comm (offers action p) (offers action q)
+  law-offers (regrouping-parts p q r) = sym (or-assoc (offers action p) (offers action q) (offers action r))
   law-offers (part-of-nothing p) = or-false (offers action p)
-  law-offers (commuting-arms p q) = or-commutes (offers action p) (offers action q)
-  law-offers (regrouping-arms p q r) = or-regroups (offers action p) (offers action q) (offers action r)
+  law-offers (commuting-arms p q) = or-comm (offers action p) (offers action q)
+  law-offers (regrouping-arms p q r) = sym (or-assoc (offers action p) (offers action q) (offers action r))
   law-offers (arm-of-nothing p) = or-false (offers action p)
   law-offers (trading-places s t p) = sym (offers-renamed exchange 0 p)
   law-offers (restricting-nothing s) = refl
-  law-offers (unfolding-once p) = or-twice (offers action p)
+  law-offers (unfolding-once p) = sym (or-self (offers action p))
   law-offers (extruding s p q) = ap (λ (b : Bool). b || offers action q) (sym (offers-renamed raise 0 p))
 
   pub congruent-offers : {p q : Process} → Congruent p q → offers action p ≡ offers action q

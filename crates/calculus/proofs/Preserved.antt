@@ -1,6 +1,6 @@
 -- Sorts are preserved: by each law in both directions, by communication, at any place.
 use mathlib.Core.Path.{_≡_, refl, sym, ap, ap₂, _∙_}
-use mathlib.Core.Bool.{Bool, true, false, _&&_}
+use mathlib.Core.Bool.{Bool, true, false, _&&_, and-true, and-self, and-assoc, and-comm}
 use mathlib.Core.List.{List, _∷_, _++_}
 use Prim.Native.Nat.{ℕ}
 use lib.Dec.{eqb}
@@ -18,24 +18,6 @@ use Rattle.calculus.specs.Sorts.{Sorting, sortOf, carriedBy, haveSorts, carrie
 use Rattle.calculus.proofs.Pointers.{raise-lifts, exchange-lifts, send-lifts}
 use Rattle.calculus.proofs.Sorted.{respects-renamed, raise-agrees, exchange-agrees, send-agrees, carriesSo-same, counted-same, both-left, both-right}
 
-and-commutes : (a b : Bool) → (a && b) ≡ (b && a)
-and-commutes true true = refl
-and-commutes true false = refl
-and-commutes false true = refl
-and-commutes false false = refl
-
-and-regroups : (a b c : Bool) → (a && (b && c)) ≡ ((a && b) && c)
-and-regroups true b c = refl
-and-regroups false b c = refl
-
-and-true : (a : Bool) → (a && true) ≡ a
-and-true true = refl
-and-true false = refl
-
-and-twice : (a : Bool) → a ≡ (a && a)
-and-twice true = refl
-and-twice false = refl
-
 both : (a b : Bool) → a ≡ true → b ≡ true → (a && b) ≡ true
 both true b e f = f
 both false b e f = e
@@ -44,16 +26,16 @@ module _ (sorting : Sorting) where
   -- both sides of a law respect alike
   pub law-respects : {law : Law} {lost : Option ℕ} {p q : Process} → Instance law lost p q → (names : List ℕ) → respects sorting names p ≡ respects sorting names q
   unfolding respects
-  law-respects (commuting-parts p q) names = and-commutes (respects sorting names p) (respects sorting names q)
-  law-respects (regrouping-parts p q r) names = and-regroups (respects sorting names p) (respects sorting names q) (respects sorting names r)
+  law-respects (commuting-parts p q) names = and-comm (respects sorting names p) (respects sorting names q)
+  law-respects (regrouping-parts p q r) names = sym (and-assoc (respects sorting names p) (respects sorting names q) (respects sorting names r))
   law-respects (part-of-nothing p) names = and-true (respects sorting names p)
-  law-respects (commuting-arms p q) names = and-commutes (respects sorting names p) (respects sorting names q)
-  law-respects (regrouping-arms p q r) names = and-regroups (respects sorting names p) (respects sorting names q) (respects sorting names r)
+  law-respects (commuting-arms p q) names = and-comm (respects sorting names p) (respects sorting names q)
+  law-respects (regrouping-arms p q r) names = sym (and-assoc (respects sorting names p) (respects sorting names q) (respects sorting names r))
   law-respects (arm-of-nothing p) names = and-true (respects sorting names p)
   law-respects (trading-places s t p) names =
       sym (respects-renamed exchange exchange-lifts sorting 0 (t ∷ s ∷ names) (s ∷ t ∷ names) (exchange-agrees s t names) p)
   law-respects (restricting-nothing s) names = refl
-  law-respects (unfolding-once p) names = and-twice (respects sorting names p)
+  law-respects (unfolding-once p) names = sym (and-self (respects sorting names p))
   law-respects (extruding s p q) names =
       ap (λ (b : Bool). b && respects sorting (s ∷ names) q) (sym (respects-renamed raise raise-lifts sorting 0 names (s ∷ names) (raise-agrees s names) p))
 

@@ -93,8 +93,8 @@ pub fn communication_wants_an_active_place()
     ensures replication { λ _. ⌜ ((p q : Process) (at : ℕ) → Step (communication-at at) (replication p) q → ⊥) ⌝ }
 {}
 
-// What reduces has an output and an input that stand below no prefix, up to congruence too; so whatever is below a
-// prefix waits.
+// What reduces, up to congruence too, has an output and an input that stand below no prefix; so a process that is itself
+// an output or an input does not reduce.
 pub fn reduction_wants_both_offers()
     ensures offers { λ _. ⌜ ((p q : Process) → Reduces p q → (offers sending p ≡ true) × (offers receiving p ≡ true)) ⌝ }
     ensures output { λ _. ⌜ ((subject : ℕ) (objects : List ℕ) (p q : Process) → Reduces (output subject objects p) q → ⊥) ⌝ }
