@@ -2,6 +2,8 @@
 //
 // A block has its number (2 bytes), the used length of its payload (2), the payload (504) and a check (4), each
 // number with its low byte first. docs/FORMAT.md tells the format.
+#![tactic(auto)]
+
 ghost use Rattle.std.specs.Prelude.{◌≡◌, ◌<◌, ◌≤◌, length, take};
 ghost use Rattle.blocks.specs.Check.{sum_from, check_of};
 

@@ -1,5 +1,7 @@
 // The polyadic π-calculus. Its rules are the definitions in specs/; a function here does nothing when it is called: its
 // contract is a theorem about them, and the prover has checked it.
+#![tactic(auto)]
+
 ghost use Rattle.std.specs.Prelude.{◌≡◌, ℕ, true, false, List, ◌++◌, Some, Option};
 ghost use Rattle.calculus.specs.Trees.{Process, output, input, choice, restriction, replication, write};
 ghost use Rattle.calculus.specs.Names.{rename, raise, lower, exchange, free, lowered};

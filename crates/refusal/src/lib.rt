@@ -1,11 +1,14 @@
 // Why a call declines, and where: one enum for every refusal of the product, its number, and the fault
 // that is handed up from call to call.
-ghost use Rattle.std.specs.Prelude.{◌≡◌, Some, Decides};
+#![tactic(auto)]
+
+ghost use Rattle.std.specs.Prelude.{◌≡◌, Some, Decides, nat_eq};
+ghost use Rattle.std.specs.Ordering.{on};
+ghost use Rattle.std.specs.Cmp.{partial_equiv_from_equiv};
 ghost use Rattle.refusal.specs.Numbers.{number_of};
 ghost use Rattle.refusal.specs.Words.{words_of};
 ghost use Rattle.std.specs.Cmp.Rules.{comparing};
 ghost use Rattle.std.proofs.Common.{rules};
-ghost use Rattle.std.specs.Cmp as Keys;
 
 use std::fmt;
 
@@ -132,11 +135,15 @@ impl Refusal {
 }
 
 impl PartialEq for Refusal {
-    ghost equals = { λ x y r. Decides r (x ≡ y) };
+    ghost eq = { on number_of nat_eq };
 
-    ghost laws = { Keys.partial_equiv_from_equiv (Prim.search (comparing, rules)) };
+    ghost laws = { partial_equiv_from_equiv (Prim.search (comparing, rules)) };
 
-    fn eq(&self, other: &Refusal) -> bool {
+    // Numbers tell refusals apart, so that equal numbers are equal refusals.
+    fn eq(&self, other: &Refusal) -> bool
+        ensures by_number { result ≡ on number_of nat_eq self.now other.now }
+        ensures same { Decides result (self.now ≡ other.now) }
+    {
         self.number() == other.number()
     }
 }

@@ -1,5 +1,7 @@
 // seal STREAM SHEET: seals the stream in the file STREAM into blocks, opens them again and compares, and writes
 // them to the file SHEET.
+#![tactic(auto)]
+
 mod failure;
 mod sealing;
 #[cfg(test)]

@@ -1,4 +1,6 @@
 // Terms as bytes: read, taken apart, searched and renamed. What is promised speaks of the trees that the bytes write.
+#![tactic(auto)]
+
 mod finding;
 mod head;
 mod names;
