@@ -5,7 +5,7 @@ use Rattle.calculus.specs.Laws.{Law}
 use Rattle.calculus.specs.Congruence.{Congruent, by_law, same, turned, joined, outputs, inputs, choices, parallels, restrictions, replications}
 use Rattle.calculus.specs.Reduction.{Communicates, Reduces, by_communication, beside, under_restriction, up_to_congruence, InReductions, in_none, in_one_more}
 use Rattle.calculus.specs.Contexts.{Context, hole, below_output, below_input, in_left_arm, in_right_arm, in_left_part, in_right_part, below_restriction, below_replication, fill, active, place}
-use Rattle.calculus.specs.Steps.{Direction, back, Lawful, read_forth, read_back, Label, law_at, communication_at, Step, law_step, communication_step, Steps, no_step, one_step, communications}
+use Rattle.calculus.specs.Steps.{Direction, Lawful, read_forth, read_back, Label, law_at, communication_at, Step, law_step, communication_step, Steps, no_step, one_step, communications}
 
 -- a context in the hole of another
 pub within : Context → Context → Context
