@@ -7,6 +7,6 @@ use Rattle.blocks.proofs.check.Goals as goal
 pub returns : goal.returns
 unfolding check_of
 returns c = record {
-  value = ap (λ (n : ℕ). n % 65521) (c.weighted-sum.ensures.sum ∙ ap (sum_from 1) (take_to c.args.block.now c.min-end.result 508 c.min-end.ensures));
-  bound = mod_below c.weighted-sum.result 65521 (omega arith);
+  value = ap (λ (n : ℕ). n % 65521) (c.weighted_sum.ensures.sum ∙ ap (sum_from 1) (take_to c.args.block.now c.min-end.result 508 c.min-end.ensures));
+  bound = mod_below c.weighted_sum.result 65521 (omega arith);
 }

@@ -8,8 +8,8 @@ pub loop-i-init : goal.loop-i-init
 unfolding sum_from
 loop-i-init c = (refl, omega arith)
 
-pub overflow-add-sum-in-loop-i : goal.overflow-add-sum-in-loop-i
-overflow-add-sum-in-loop-i c = let h = product_small c.loop-i.i c.from.result (omega arith) (omega arith) in search rules
+pub overflow_add-sum-in-loop-i : goal.overflow_add-sum-in-loop-i
+overflow_add-sum-in-loop-i c = let h = product_small c.loop-i.i c.from.result (omega arith) (omega arith) in search rules
 
 pub loop-i-preserved : goal.loop-i-preserved
 loop-i-preserved c =

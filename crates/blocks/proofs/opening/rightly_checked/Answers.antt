@@ -5,4 +5,4 @@ use Rattle.blocks.proofs.opening.rightly_checked.Goals as goal
 
 pub returns : goal.returns
 unfolding rightly_checked check_field
-returns c = simp (c.from-le-bytes.ensures, c.check.ensures.value)
+returns c = simp (c.from_le_bytes.ensures, c.check.ensures.value)

@@ -5,11 +5,11 @@ use Rattle.blocks.proofs.sealing.seal_block.Goals as goal
 pub returns : goal.returns
 returns c =
     block_written c.args.number c.args.payload.now c.args.out.now
-    c.copy-from-slice.new.self c.copy-from-slice-2.new.self c.copy-from-slice-3.new.self c.fill.new.self c.copy-from-slice-4.new.self
+    c.copy_from_slice.new.self c.copy_from_slice-2.new.self c.copy_from_slice-3.new.self c.fill.new.self c.copy_from_slice-4.new.self
     c.check-sum.result c.requires.short c.requires.whole
-    (c.copy-from-slice.ensures.after ∙ c.to-le-bytes.ensures)
-    (c.copy-from-slice-2.ensures.after ∙ c.to-le-bytes-2.ensures)
-    c.copy-from-slice-3.ensures.after
+    (c.copy_from_slice.ensures.after ∙ c.to_le_bytes.ensures)
+    (c.copy_from_slice-2.ensures.after ∙ c.to_le_bytes-2.ensures)
+    c.copy_from_slice-3.ensures.after
     (c.fill.ensures.after (λ y e. e))
     c.check-sum.ensures.value
-    (c.copy-from-slice-4.ensures.after ∙ c.to-le-bytes-3.ensures)
+    (c.copy_from_slice-4.ensures.after ∙ c.to_le_bytes-3.ensures)

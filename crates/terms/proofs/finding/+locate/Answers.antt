@@ -14,9 +14,9 @@ returns-then-offset-eq0 t c = record {
   passed = simp c.if-offset-eq0.true c.topmost.ensures.passed;
 }
 
-pub returns-in-default : goal.returns-in-default
-returns-in-default t c = record {
-  answer = λ p ns found. absurd (headed c.args.bytes.now ns p c.in-default.field-0 c.in-default.ensures.answer found);
+pub returns-in_default : goal.returns-in_default
+returns-in_default t c = record {
+  answer = λ p ns found. absurd (headed c.args.bytes.now ns p c.in_default.field-0 c.in_default.ensures.answer found);
   passed = tt;
 }
 
@@ -46,7 +46,7 @@ returns-in-One t c =
     let long : length rest ≡ length bs - size = ap length (take_rest bs size) ∙ length-drop size bs in
     let opens : c.if-active.active ≡ (c.args.active && active_below c.in-Ok.head) =
     elim c.if-active.branch [
-      | then-active w ↦ open_below _ _ _ w.if-active.true (w.active-is ∙ w.active-below-active.ensures)
+      | then-active w ↦ open_below _ _ _ w.if-active.true (w.active-is ∙ w.active_below-active.ensures)
       | else-active w ↦ shut_below _ _ _ w.if-active.false w.active-is
     ] in
     record {
@@ -70,7 +70,7 @@ returns-in-Past t c =
     let long_next : length next ≡ length rest - first = ap length (take_rest rest first) ∙ length-drop first rest in
     let opens : c.if-active.active ≡ (c.args.active && active_below c.in-Ok.head) =
     elim c.if-active.branch [
-      | then-active w ↦ open_below _ _ _ w.if-active.true (w.active-is ∙ w.active-below-active.ensures)
+      | then-active w ↦ open_below _ _ _ w.if-active.true (w.active-is ∙ w.active_below-active.ensures)
       | else-active w ↦ shut_below _ _ _ w.if-active.false w.active-is
     ] in
     record {
@@ -82,8 +82,8 @@ returns-in-Past t c =
           (passed_later (size + first) c.args.offset (length bs) (c.args.offset - size - first) (length next) c.locate-in-Past.result (omega arith) (omega arith) c.locate-in-Past.ensures.passed);
     }
 
-pub returns-in-default-locate : goal.returns-in-default-locate
-returns-in-default-locate t c =
+pub returns-in_default-locate : goal.returns-in_default-locate
+returns-in_default-locate t c =
     let bs : List ℕ = c.args.bytes.now in
     let size : ℕ = c.size-size.result in
     let rest : List ℕ = take (length bs - size) (drop size bs) in
@@ -91,11 +91,11 @@ returns-in-default-locate t c =
     let long : length rest ≡ length bs - size = ap length (take_rest bs size) ∙ length-drop size bs in
     let opens : c.if-active.active ≡ (c.args.active && active_below c.in-Ok.head) =
     elim c.if-active.branch [
-      | then-active w ↦ open_below _ _ _ w.if-active.true (w.active-is ∙ w.active-below-active.ensures)
+      | then-active w ↦ open_below _ _ _ w.if-active.true (w.active-is ∙ w.active_below-active.ensures)
       | else-active w ↦ shut_below _ _ _ w.if-active.false w.active-is
     ] in
     record {
       answer = locates_first bs c.in-Ok.head c.in-Ok.ensures.answer size c.size-size.ensures c.args.offset c.args.bound c.args.active
-          (omega arith) c.binds.result c.binds.ensures c.if-active.active opens rest left c.in-Two.ensures c.locate-in-Two.result c.in-default-locate.not-Past c.locate-in-Two.ensures.answer;
+          (omega arith) c.binds.result c.binds.ensures c.if-active.active opens rest left c.in-Two.ensures c.locate-in-Two.result c.in_default-locate.not-Past c.locate-in-Two.ensures.answer;
       passed = passed_more c.args.offset (length bs) (c.args.offset - size) (length rest) c.locate-in-Two.result (omega arith) (omega arith) c.locate-in-Two.ensures.passed;
     }

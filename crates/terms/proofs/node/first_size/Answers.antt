@@ -4,9 +4,9 @@ use Rattle.terms.proofs.Nodes.{rest_size, stuck_size}
 use Rattle.terms.proofs.Passed.{past_shortens}
 use Rattle.terms.proofs.node.first_size.Goals as goal
 
-pub overflow-sub-result : goal.overflow-sub-result
+pub overflow_sub-result : goal.overflow_sub-result
 unfolding seen
-overflow-sub-result c = past_shortens c.args.bytes.now c.in-Ok.rest.now c.in-Ok.ensures
+overflow_sub-result c = past_shortens c.args.bytes.now c.in-Ok.rest.now c.in-Ok.ensures
 
 pub returns-in-Ok : goal.returns-in-Ok
 unfolding seen

@@ -7,33 +7,33 @@ use Rattle.terms.proofs.Numbers.{typed_bytes}
 use Rattle.terms.proofs.Examined.{examined_long, examined_whole, examined_left, examined_stuck}
 use Rattle.terms.proofs.reading.examine.Goals as goal
 
-pub returns-then-size-gt-LONGEST-TERM : goal.returns-then-size-gt-LONGEST-TERM
-returns-then-size-gt-LONGEST-TERM c = examined_long c.args.bytes.now c.if-size-gt-LONGEST-TERM.true
+pub returns-then-size-gt-LONGEST_TERM : goal.returns-then-size-gt-LONGEST_TERM
+returns-then-size-gt-LONGEST_TERM c = examined_long c.args.bytes.now c.if-size-gt-LONGEST_TERM.true
 
-pub overflow-sub-result : goal.overflow-sub-result
+pub overflow_sub-result : goal.overflow_sub-result
 unfolding seen
-overflow-sub-result c = past_shortens c.args.bytes.now c.in-Ok.rest.now c.in-Ok.ensures
+overflow_sub-result c = past_shortens c.args.bytes.now c.in-Ok.rest.now c.in-Ok.ensures
 
-pub overflow-sub-result-in-Err : goal.overflow-sub-result-in-Err
+pub overflow_sub-result-in-Err : goal.overflow_sub-result-in-Err
 unfolding seen
-overflow-sub-result-in-Err c = stuck_shortens c.args.bytes.now c.in-Err.rest.now c.in-Err.ensures
+overflow_sub-result-in-Err c = stuck_shortens c.args.bytes.now c.in-Err.rest.now c.in-Err.ensures
 
 pub returns-in-Ok : goal.returns-in-Ok
 unfolding seen
 returns-in-Ok c =
-    let bytes = typed_bytes c.args.bytes.now (λ i. omega (arith, c.type-inv.bytes i)) in
-    examined_whole c.args.bytes.now c.in-Ok.rest.now bytes c.if-size-gt-LONGEST-TERM.false c.in-Ok.ensures
-    (eqb-true (length c.in-Ok.rest.now) 0 (sym c.if-is-empty.ensures))
+    let bytes = typed_bytes c.args.bytes.now (λ i. omega (arith, c.type_inv.bytes i)) in
+    examined_whole c.args.bytes.now c.in-Ok.rest.now bytes c.if-size-gt-LONGEST_TERM.false c.in-Ok.ensures
+    (eqb-true (length c.in-Ok.rest.now) 0 (sym c.if-is_empty.ensures))
 
 pub returns-in-Ok-2 : goal.returns-in-Ok-2
 unfolding seen
 returns-in-Ok-2 c =
-    let bytes = typed_bytes c.args.bytes.now (λ i. omega (arith, c.type-inv.bytes i)) in
-    examined_left c.args.bytes.now c.in-Ok.rest.now bytes c.if-size-gt-LONGEST-TERM.false c.in-Ok.ensures
-    (not_empty (length c.in-Ok.rest.now) c.if-is-empty.ensures)
+    let bytes = typed_bytes c.args.bytes.now (λ i. omega (arith, c.type_inv.bytes i)) in
+    examined_left c.args.bytes.now c.in-Ok.rest.now bytes c.if-size-gt-LONGEST_TERM.false c.in-Ok.ensures
+    (not_empty (length c.in-Ok.rest.now) c.if-is_empty.ensures)
 
 pub returns-in-Err : goal.returns-in-Err
 unfolding seen
 returns-in-Err c =
-    let bytes = typed_bytes c.args.bytes.now (λ i. omega (arith, c.type-inv.bytes i)) in
-    examined_stuck c.args.bytes.now c.in-Err.rest.now bytes c.if-size-gt-LONGEST-TERM.false c.in-Err.ensures
+    let bytes = typed_bytes c.args.bytes.now (λ i. omega (arith, c.type_inv.bytes i)) in
+    examined_stuck c.args.bytes.now c.in-Err.rest.now bytes c.if-size-gt-LONGEST_TERM.false c.in-Err.ensures

@@ -12,7 +12,7 @@ known-requires-in-Err c = nothing_term
 pub returns-in-Ok : goal.returns-in-Ok
 returns-in-Ok c =
     let is = c.in-Ok.ensures in
-    let bytes = typed_bytes c.args.bytes.now (λ i. omega (arith, c.type-inv.bytes i)) in
+    let bytes = typed_bytes c.args.bytes.now (λ i. omega (arith, c.type_inv.bytes i)) in
     record {
       answer = is;
       term = c.known.ensures;
@@ -24,7 +24,7 @@ returns-in-Ok c =
 pub returns-in-Err : goal.returns-in-Err
 returns-in-Err c =
     let is = c.in-Err.ensures in
-    let bytes = typed_bytes c.args.bytes.now (λ i. omega (arith, c.type-inv.bytes i)) in
+    let bytes = typed_bytes c.args.bytes.now (λ i. omega (arith, c.type_inv.bytes i)) in
     record {
       answer = is;
       term = c.known-in-Err.ensures;

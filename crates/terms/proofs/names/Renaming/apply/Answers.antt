@@ -21,7 +21,7 @@ pub returns-in-Lower : goal.returns-in-Lower
 unfolding function_of
 returns-in-Lower c =
     let above : c.args.depth ≤ c.args.pointer = omega arith in
-    c.saturating-sub.ensures ∙ ap (λ (n : ℕ). n - 1) c.from-pointer.ensures ∙ lower_free c.args.depth c.args.pointer above
+    c.saturating_sub.ensures ∙ ap (λ (n : ℕ). n - 1) c.from-pointer.ensures ∙ lower_free c.args.depth c.args.pointer above
     ∙ ap (λ (r : Renaming). function_of r c.args.depth c.args.pointer) (sym c.in-Lower.is)
 
 pub returns-in-Exchange : goal.returns-in-Exchange

@@ -12,8 +12,8 @@ use Rattle.terms.proofs.term.Term.find.Goals as goal
 pub locate-requires : goal.locate-requires
 locate-requires c = omega (arith, term_short c.bytes.result.now c.bytes.ensures.term)
 
-pub overflow-add-result : goal.overflow-add-result
-overflow-add-result c =
+pub overflow_add-result : goal.overflow_add-result
+overflow_add-result c =
     let bs : List ℕ = c.bytes.result.now in
     let term : is_term bs ≡ true = c.bytes.ensures.term in
     let there : Here c.in-Here.size c.in-Here.bound c.in-Here.active ≡ located_in c.args.offset 0 true (tree_of bs) = c.in-Here.ensures.answer (tree_of bs) [] (term_scan bs term) in

@@ -13,8 +13,8 @@ clear-requires c = omega (arith, term_short c.bytes.result.now c.bytes.ensures.t
 
 pub returns : goal.returns
 returns c =
-    clear_told (test_of c.pointer-sought.result) 0 (scan c.bytes.result.now) (tree_of c.bytes.result.now) _ c.clear.result c.is-none.result
-    (term_scan c.bytes.result.now c.bytes.ensures.term) c.clear.ensures.answer c.is-none.ensures
+    clear_told (test_of c.pointer-sought.result) 0 (scan c.bytes.result.now) (tree_of c.bytes.result.now) _ c.clear.result c.is_none.result
+    (term_scan c.bytes.result.now c.bytes.ensures.term) c.clear.ensures.answer c.is_none.ensures
     ∙ ap (λ (s : Sought). any_pointer (test_of s) 0 (tree_of c.bytes.result.now)) c.pointer-sought.ensures
     ∙ sym (free_any c.args.pointer (tree_of c.bytes.result.now))
     ∙ ap (λ (x : List ℕ). free c.args.pointer (tree_of x)) c.bytes.ensures.bytes

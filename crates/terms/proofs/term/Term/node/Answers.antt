@@ -10,7 +10,7 @@ use Rattle.terms.proofs.Scanned.{head_size, head_opens}
 use Rattle.terms.proofs.term.Term.node.Goals as goal
 
 pub unreachable-requires : goal.unreachable-requires
-unreachable-requires c = term_headed c.bytes-bytes.result.now c.bytes-bytes.ensures.term c.in-default.field-0 c.in-default.ensures.answer
+unreachable-requires c = term_headed c.bytes-bytes.result.now c.bytes-bytes.ensures.term c.in_default.field-0 c.in_default.ensures.answer
 
 pub known-requires : goal.known-requires
 known-requires c = nothing_term
@@ -24,14 +24,14 @@ known-requires-in-One-2 c = nothing_term
 pub known-requires-in-Two : goal.known-requires-in-Two
 known-requires-in-Two c =
     let rest = rest_is c.bytes-bytes.result.now c.in-Ok.head c.in-Ok.ensures.answer c.size-size.result c.size-size.ensures in
-    let size = size_cut c.bytes-bytes.result.now c.size-size.result c.first-size-split.result _ rest c.first-size-split.ensures.size in
-    ap is_term (first_cut c.bytes-bytes.result.now c.size-size.result c.first-size-split.result _ rest) ∙ first_term c.bytes-bytes.result.now c.bytes-bytes.ensures.term c.in-Ok.head c.in-Ok.ensures.answer c.in-Two.ensures c.first-size-split.result size
+    let size = size_cut c.bytes-bytes.result.now c.size-size.result c.first_size-split.result _ rest c.first_size-split.ensures.size in
+    ap is_term (first_cut c.bytes-bytes.result.now c.size-size.result c.first_size-split.result _ rest) ∙ first_term c.bytes-bytes.result.now c.bytes-bytes.ensures.term c.in-Ok.head c.in-Ok.ensures.answer c.in-Two.ensures c.first_size-split.result size
 
 pub known-requires-in-Two-2 : goal.known-requires-in-Two-2
 known-requires-in-Two-2 c =
     let rest = rest_is c.bytes-bytes.result.now c.in-Ok.head c.in-Ok.ensures.answer c.size-size.result c.size-size.ensures in
-    let size = size_cut c.bytes-bytes.result.now c.size-size.result c.first-size-split.result _ rest c.first-size-split.ensures.size in
-    ap is_term (second_cut c.bytes-bytes.result.now c.size-size.result c.first-size-split.result _ rest) ∙ second_term c.bytes-bytes.result.now c.bytes-bytes.ensures.term c.in-Ok.head c.in-Ok.ensures.answer c.in-Two.ensures c.first-size-split.result size
+    let size = size_cut c.bytes-bytes.result.now c.size-size.result c.first_size-split.result _ rest c.first_size-split.ensures.size in
+    ap is_term (second_cut c.bytes-bytes.result.now c.size-size.result c.first_size-split.result _ rest) ∙ second_term c.bytes-bytes.result.now c.bytes-bytes.ensures.term c.in-Ok.head c.in-Ok.ensures.answer c.in-Two.ensures c.first_size-split.result size
 
 pub returns-in-Zero : goal.returns-in-Zero
 returns-in-Zero c =
@@ -72,12 +72,12 @@ returns-in-Two c =
     row_of c.bytes-bytes.result.now (c.size-size.result - (c.size-size.result - c.objects.result)) (c.size-size.result - c.objects.result) (size_of c.in-Ok.head - objects_of c.in-Ok.head) (objects_of c.in-Ok.head) from long
     ∙ object_row c.bytes-bytes.result.now c.in-Ok.head in
     let rest = rest_is c.bytes-bytes.result.now c.in-Ok.head c.in-Ok.ensures.answer c.size-size.result c.size-size.ensures in
-    let size = size_cut c.bytes-bytes.result.now c.size-size.result c.first-size-split.result _ rest c.first-size-split.ensures.size in
+    let size = size_cut c.bytes-bytes.result.now c.size-size.result c.first_size-split.result _ rest c.first_size-split.ensures.size in
     record {
       process = process_made c.in-Ok.head _ _ _ _ _ _ (tree_of c.args.self.now.bytes.now) objects
-          (c.known-in-Two.ensures ∙ first_cut c.bytes-bytes.result.now c.size-size.result c.first-size-split.result _ rest)
-          (c.known-in-Two-2.ensures ∙ second_cut c.bytes-bytes.result.now c.size-size.result c.first-size-split.result _ rest)
-          (ap tree_of (sym c.bytes-bytes.ensures.bytes) ∙ two_made c.bytes-bytes.result.now c.bytes-bytes.ensures.term c.in-Ok.head c.in-Ok.ensures.answer c.in-Two.ensures c.first-size-split.result size);
+          (c.known-in-Two.ensures ∙ first_cut c.bytes-bytes.result.now c.size-size.result c.first_size-split.result _ rest)
+          (c.known-in-Two-2.ensures ∙ second_cut c.bytes-bytes.result.now c.size-size.result c.first_size-split.result _ rest)
+          (ap tree_of (sym c.bytes-bytes.ensures.bytes) ∙ two_made c.bytes-bytes.result.now c.bytes-bytes.ensures.term c.in-Ok.head c.in-Ok.ensures.answer c.in-Two.ensures c.first_size-split.result size);
       objects = ap (λ (x : List ℕ). length x) objects ∙ (head_opens c.bytes-bytes.result.now c.in-Ok.head (sym c.in-Ok.ensures.answer)).count;
       spare = spare_at Two _ c.in-Two.ensures tt;
     }

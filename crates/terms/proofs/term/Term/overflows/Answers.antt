@@ -15,7 +15,7 @@ clear-requires c = omega (arith, term_short c.bytes.result.now c.bytes.ensures.t
 
 pub returns : goal.returns
 returns c =
-    clear_told (test_of (Overflow c.args.renaming)) 0 (scan c.bytes.result.now) (tree_of c.bytes.result.now) _ c.clear.result c.is-none.result
-    (term_scan c.bytes.result.now c.bytes.ensures.term) c.clear.ensures.answer c.is-none.ensures
+    clear_told (test_of (Overflow c.args.renaming)) 0 (scan c.bytes.result.now) (tree_of c.bytes.result.now) _ c.clear.result c.is_none.result
+    (term_scan c.bytes.result.now c.bytes.ensures.term) c.clear.ensures.answer c.is_none.ensures
     ∙ not_twice _ _ (overflow_any c.args.renaming (tree_of c.bytes.result.now) (term_bytes c.bytes.result.now c.bytes.ensures.term))
     ∙ ap (λ (x : List ℕ). not (are_bytes (write (rename (function_of c.args.renaming) 0 (tree_of x))))) c.bytes.ensures.bytes

@@ -23,8 +23,8 @@ returns-then-out-size c =
     let is = renaming_short (function_of c.args.renaming) (tree c.args.self.now) (length c.args.out.now) c.if-overflows.ensures (omega arith) in
     record { answer = sym (answered_declined _ _ is); buffer = sym (left_declined _ _ is c.args.out.now); size = tt; term = tt }
 
-pub rename-in-place-size-requires : goal.rename-in-place-size-requires
-rename-in-place-size-requires c =
+pub rename_in_place-size-requires : goal.rename_in_place-size-requires
+rename_in_place-size-requires c =
     let short = term_short c.bytes-bytes.result.now c.bytes-bytes.ensures.term in
     simp length-take (omega arith)
 
@@ -36,9 +36,9 @@ returns c =
     let is = renaming_fits (function_of c.args.renaming) (tree c.args.self.now) (length c.args.out.now) c.if-overflows.ensures (omega arith) in
     let size : length c.bytes-bytes.result.now ≡ length (write (tree c.args.self.now)) = omega arith in
     let buffer =
-    renames_copied (bytes_of c.args.self.now) term c.args.renaming c.args.out.now c.copy-from-slice.new.self c.rename-in-place-size.new.bytes
-    (length c.bytes-bytes.result.now - 0) c.rename-in-place-size.result c.if-overflows.ensures (c.copy-from-slice.ensures.after ∙ c.bytes-bytes.ensures.bytes) (omega arith)
-    c.rename-in-place-size.ensures.renamed in
+    renames_copied (bytes_of c.args.self.now) term c.args.renaming c.args.out.now c.copy_from_slice.new.self c.rename_in_place-size.new.bytes
+    (length c.bytes-bytes.result.now - 0) c.rename_in_place-size.result c.if-overflows.ensures (c.copy_from_slice.ensures.after ∙ c.bytes-bytes.ensures.bytes) (omega arith)
+    c.rename_in_place-size.ensures.renamed in
     record {
       answer = ap Ok (size ∙ sym (length-renamed (function_of c.args.renaming) 0 (tree c.args.self.now))) ∙ sym (answered_written _ _ is);
       buffer = buffer ∙ sym (left_written _ _ is c.args.out.now);
