@@ -1,5 +1,5 @@
 -- The definitions tried by evaluation: a stream of the byte 7, and one of 505 bytes.
-use Rattle.std.proofs.Common.{◌≡◌, ℕ, List, [], ◌∷◌, length, take, replicate, Ok, Err, refl}
+use Rattle.std.proofs.Common.{◌≡◌, [], ◌∷◌, length, replicate, Ok, refl}
 use Rattle.blocks.specs.Check.{sum_from, check_of}
 use Rattle.blocks.specs.Sealing.{front, block, blocks_from, block_count, sheet_of}
 use Rattle.blocks.specs.Opening.{opened, unless, fault_from, fault_of, or_else, payload_of, payloads, whole_blocks, rightly_formed, rightly_checked, rightly_used, zeros, check_field, used_field, number_field}

@@ -1,12 +1,12 @@
 -- Sealing and opening undo each other: by induction over the blocks.
-use Rattle.std.proofs.Common.{◌≡◌, ℕ, zero, suc, ◌+◌, ◌-◌, ◌*◌, ◌/◌, ◌%◌, ◌<◌, ◌≤◌, true, ◌⊎◌, List, [], ◌∷◌, ◌++◌, length, get_or, take, drop, None, Ok, sym, refl, ap, ◌∙◌, subst, inl, inr, arith}
+use Rattle.std.proofs.Common.{◌≡◌, ℕ, zero, suc, ◌+◌, ◌-◌, ◌*◌, ◌/◌, ◌%◌, ◌<◌, ◌≤◌, true, ◌⊎◌, List, ◌++◌, length, get_or, take, drop, None, Ok, sym, refl, ap, ◌∙◌, inl, inr, arith}
 use Rattle.std.proofs.lemmas.List.{take_at, drop_at, take_all, drop_all, take-append-drop, length-take, length-drop, length-append, append-nil, get_or-take, get_or-drop, get_or_past, nil_from_length}
 use Rattle.std.proofs.lemmas.Bool.{cases_lt, and_from, eq-eqb, lt-ltb, le-leb}
 use Rattle.std.proofs.lemmas.Bool.Decides.{nat_tests}
 use Rattle.blocks.specs.Sealing.{block, blocks_from, block_count, sheet_of}
-use Rattle.blocks.specs.Opening.{used_field, rightly_used, fault_of, or_else, fault_from, payload_of, payloads, whole_blocks, opened}
+use Rattle.blocks.specs.Opening.{used_field, rightly_used, fault_of, or_else, fault_from, payload_of, payloads, whole_blocks}
 use Rattle.blocks.specs.Laws.{OpensAgain, SealedOnly}
-use Rattle.blocks.proofs.Examined.{fault_none, used_small}
+use Rattle.blocks.proofs.Examined.{fault_none}
 use Rattle.blocks.proofs.Fields.{payload_sealed, checked_sealed, formed_sealed, length_read, sealed_read}
 use Rattle.blocks.proofs.Opened.{or_else_none, fine_block, formed_parts, opened_ok, opened_fine, whole_parts}
 use Rattle.blocks.proofs.Packed.{length-block, length_payload, length-sheet_of}

@@ -1,5 +1,5 @@
 -- The blocks of a stream, one after another: their lengths, and one turn of the loop that writes them.
-use Rattle.std.proofs.Common.{◌≡◌, ℕ, zero, suc, ◌+◌, ◌-◌, ◌*◌, ◌/◌, ◌<◌, ◌≤◌, ◌⊎◌, List, [], ◌∷◌, ◌++◌, length, take, drop, replicate, Ok, Err, sym, refl, ap, ◌∙◌, inl, inr, append_assoc, add-one, arith}
+use Rattle.std.proofs.Common.{◌≡◌, ℕ, zero, suc, ◌+◌, ◌-◌, ◌*◌, ◌/◌, ◌<◌, ◌≤◌, ◌⊎◌, List, ◌++◌, length, take, drop, Ok, Err, sym, refl, ap, ◌∙◌, inl, inr, append_assoc, add-one, arith}
 use borrow.Rule.Slice.PartMut.{put_mid}
 use Rattle.std.proofs.lemmas.List.{length-append, length-take, length-replicate, drop-drop, append-nil, take-append-drop}
 use Rattle.std.proofs.lemmas.Slice.{take-put_mid, drop-put_mid}
@@ -7,8 +7,7 @@ use Rattle.std.proofs.lemmas.Bool.{lt-ltb, le-ltb, cases_lt}
 use Rattle.refusal.specs.declared.Refusal.TheVariants.{StreamTooLong, BufferTooShort}
 use Rattle.refusal.specs.Writes.{fault, answered, within}
 use Rattle.refusal.proofs.Writes.{answered_ok, within_short, within_fits, within_ok}
-use Rattle.blocks.specs.Check.{check_of}
-use Rattle.blocks.specs.Sealing.{two, four, front, block, blocks_from, block_count, sheet_of, packing}
+use Rattle.blocks.specs.Sealing.{front, block, blocks_from, block_count, sheet_of, packing}
 
 pub length_front : (n : ℕ) (p : List ℕ) → length p ≤ 504 → length (front n p) ≡ 508
 unfolding front

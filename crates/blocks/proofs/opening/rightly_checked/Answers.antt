@@ -1,5 +1,3 @@
-use Rattle.std.proofs.Common.{◌≡◌, eqb}
-use Rattle.blocks.specs.Check.{check_of}
 use Rattle.blocks.specs.Opening.{rightly_checked, check_field}
 use Rattle.blocks.proofs.opening.rightly_checked.Goals as goal
 

@@ -1,4 +1,4 @@
-use Rattle.std.proofs.Common.{◌≡◌, ℕ, ◌+◌, ◌-◌, ◌*◌, ◌/◌, ◌<◌, ◌≤◌, length, drop, Ok, sym, refl, ap, ◌∙◌, arith}
+use Rattle.std.proofs.Common.{◌≡◌, ℕ, ◌+◌, ◌-◌, ◌*◌, ◌/◌, ◌<◌, ◌≤◌, length, Ok, sym, refl, ap, ◌∙◌, arith}
 use Rattle.refusal.proofs.Writes.{answered_declined, left_declined, answered_written, left_written}
 use Rattle.blocks.specs.Sealing.{block, blocks_from, block_count, sheet_of}
 use Rattle.blocks.proofs.Laws.{opens_again}

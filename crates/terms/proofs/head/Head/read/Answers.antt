@@ -53,8 +53,8 @@ returns-in-2 c =
     let answer = head_input c.args.bytes.now tag three few in
     record { answer = answer; opens = opens_with c.args.bytes.now _ answer; refused = tt; within = omega arith }
 
-pub returns-in-default·3 : goal.returns-in_default·3
-returns-in-default·3 c =
+pub returns-in_default-3 : goal.returns-in_default-3
+returns-in_default-3 c =
     let tag : 6 < get_or c.args.bytes.now 0 0 = omega arith in
     let some = not_empty (length c.args.bytes.now) c.if-is_empty.ensures in
     let answer = head_unknown c.args.bytes.now some tag in
