@@ -12,6 +12,7 @@ use failure::Failure;
 use sealing::seal_stream;
 use std::fs::File;
 use std::io::{Read, Write};
+use std::process::ExitCode;
 use std::{env, fs, io};
 
 const USAGE: &str = "usage: seal STREAM SHEET
@@ -21,10 +22,6 @@ opens the blocks again to compare, and writes them to the file SHEET.";
 
 // One byte more than the longest stream, which is enough to see that a stream is too long.
 const READ_LIMIT: u64 = LONGEST_STREAM as u64 + 1;
-
-// The program ends with status 1; what was wrong is on standard error.
-#[derive(Drop)]
-struct Unsuccessful;
 
 fn read_stream(rt: &HostRuntime, path: &str) -> io::Result<Vec<u8>> {
     let file = File::open(rt, path)?;
@@ -95,24 +92,25 @@ fn arguments(rt: &HostRuntime) -> io::Result<Vec<String>> {
     Ok(all.collect(rt.alloc())?)
 }
 
-fn main(rt: HostRuntime) -> Result<(), Unsuccessful> {
+// Ends with status 1 after a failure or wrong arguments; what was wrong is on standard error.
+fn main(rt: HostRuntime) -> ExitCode {
     let Ok(args) = arguments(&rt) else {
         let _ = eprintln!(rt; "seal: the arguments cannot be read");
-        return Err(Unsuccessful);
+        return ExitCode::FAILURE;
     };
     if args.len() == 2 && args[1].as_str() == "--help" {
         let _ = println!(rt; "{USAGE}");
-        return Ok(());
+        return ExitCode::SUCCESS;
     }
     if args.len() != 3 {
         let _ = eprintln!(rt; "{USAGE}");
-        return Err(Unsuccessful);
+        return ExitCode::FAILURE;
     }
     match run(&rt, args[1].as_str(), args[2].as_str()) {
-        Ok(()) => Ok(()),
+        Ok(()) => ExitCode::SUCCESS,
         Err(failure) => {
             let _ = eprintln!(rt; "seal: {failure}");
-            Err(Unsuccessful)
+            ExitCode::FAILURE
         }
     }
 }

@@ -4,11 +4,13 @@ use crate::run;
 use crate::sealing::Unsealed;
 use refusal::Refusal;
 use std::fs;
-use std::test::*;
+use std::process::Abort;
+use std::rt::Files;
+use std::test::Fail;
 
-fn nothing_written(rt: &HostRuntime, sheet: &str, part: &str) -> Result<(), Fail> {
-    assert!(!fs::exists(rt, sheet)?);
-    assert!(!fs::exists(rt, part)?);
+fn nothing_written(rt: &(impl Abort + Files), sheet: &str, part: &str) -> Result<(), Fail> {
+    assert!(rt; !fs::exists(rt, sheet)?);
+    assert!(rt; !fs::exists(rt, part)?);
     Ok(())
 }
 
