@@ -2,13 +2,10 @@
 // that is handed up from call to call.
 #![tactic(auto)]
 
-ghost use Rattle.std.specs.Prelude.{◌≡◌, Some, Decides, nat_eq};
-ghost use Rattle.std.specs.Ordering.{on};
-ghost use Rattle.std.specs.Cmp.{partial_equiv_from_equiv};
+ghost use Rattle.std.specs.Prelude.{◌≡◌, Some};
 ghost use Rattle.refusal.specs.Numbers.{number_of};
 ghost use Rattle.refusal.specs.Words.{words_of};
-ghost use Rattle.std.specs.Cmp.Rules.{comparing};
-ghost use Rattle.std.proofs.Common.{rules};
+ghost use Rattle.refusal.specs.Writes.{fault};
 
 use std::fmt;
 
@@ -16,92 +13,78 @@ use std::fmt;
 mod tests;
 
 // A refusal, named by its cause.
-#[derive(Clone, Copy, Eq, Debug)]
+#[derive(Clone, Copy, PartialEq, Eq, Hash, Debug)]
 pub enum Refusal {
     // a term of more than 4,096 bytes
-    TermTooLong,
+    TermTooLong = 1,
     // bytes that are not one whole term
-    NotOneTerm,
+    NotOneTerm = 2,
     // a book's own bytes of a move are lacking, unknown or too many
-    MoveUnreadable,
+    MoveUnreadable = 3,
     // the offset is not the first byte of a node
-    NoNodeThere,
+    NoNodeThere = 4,
     // something other than a parallel or a restriction stands above the place
-    PlaceNotActive,
+    PlaceNotActive = 5,
     // the subterm has not the shape that the rule wants, or two copies differ
-    ShapeMisfit,
+    ShapeMisfit = 6,
     // the restricted name is free where scope extrusion, read backward, wants it unused
-    NameInUse,
+    NameInUse = 7,
     // sender and receiver differ in subject or in count
-    ChannelDiffers,
+    ChannelDiffers = 8,
     // a pointer would pass 255
-    PointerOverflow,
+    PointerOverflow = 9,
     // a result of more than 4,096 bytes
-    ResultTooLong,
+    ResultTooLong = 10,
     // the borrowed buffer is too short
-    BufferTooShort,
+    BufferTooShort = 11,
     // the player holds no term
-    NothingLoaded,
+    NothingLoaded = 12,
     // the tally would pass 1,000,000
-    TallyFull,
+    TallyFull = 13,
     // more than 256 name sorts
-    TooManyNameSorts,
+    TooManyNameSorts = 14,
     // a stream of more than 64,512 bytes
-    StreamTooLong,
+    StreamTooLong = 15,
     // not 1 to 128 whole blocks
-    NotWholeBlocks,
+    NotWholeBlocks = 16,
     // a block's check is not that of its first 508 bytes
-    CheckDiffers,
+    CheckDiffers = 17,
     // a block's number, used length or filling is wrong
-    BlockMalformed,
+    BlockMalformed = 18,
     // bytes of a part of a stream are lacking, or bytes are left over
-    PartLength,
+    PartLength = 19,
     // the claim of a sheet is not what the moves led to
-    ClaimDiffers,
+    ClaimDiffers = 20,
     // a list of more than 8 sorts
-    ListTooLong,
+    ListTooLong = 21,
     // the table has a row of that sort
-    SortPresent,
+    SortPresent = 22,
     // the table has 64 rows
-    TableFull,
+    TableFull = 23,
     // the table has no such row, or the row no such place
-    NoSuchPlace,
+    NoSuchPlace = 24,
 }
 
 impl Refusal {
     // The number by which sheets, lines and documents name the refusal.
     pub fn number(self) -> u8
-        ensures { result ≡ number_of self }
+        ensures value { result ≡ number_of self }
+        ensures apart { (other : Refusal) → number_of other ≡ number_of self → other ≡ self }
     {
-        match self {
-            Refusal::TermTooLong => 1,
-            Refusal::NotOneTerm => 2,
-            Refusal::MoveUnreadable => 3,
-            Refusal::NoNodeThere => 4,
-            Refusal::PlaceNotActive => 5,
-            Refusal::ShapeMisfit => 6,
-            Refusal::NameInUse => 7,
-            Refusal::ChannelDiffers => 8,
-            Refusal::PointerOverflow => 9,
-            Refusal::ResultTooLong => 10,
-            Refusal::BufferTooShort => 11,
-            Refusal::NothingLoaded => 12,
-            Refusal::TallyFull => 13,
-            Refusal::TooManyNameSorts => 14,
-            Refusal::StreamTooLong => 15,
-            Refusal::NotWholeBlocks => 16,
-            Refusal::CheckDiffers => 17,
-            Refusal::BlockMalformed => 18,
-            Refusal::PartLength => 19,
-            Refusal::ClaimDiffers => 20,
-            Refusal::ListTooLong => 21,
-            Refusal::SortPresent => 22,
-            Refusal::TableFull => 23,
-            Refusal::NoSuchPlace => 24,
+        self as u8
+    }
+
+    // The refusal, at a place.
+    pub fn at(self, place: usize) -> Fault
+        ensures { result ≡ fault self place }
+    {
+        Fault {
+            refusal: self,
+            place,
         }
     }
 
-    // The refusal in words, for people.
+    // The refusal in words, for people: `Display` writes these, and `words_of` says which they are.
     pub fn words(self) -> &'static str
         ensures { result.now ≡ words_of self }
     {
@@ -134,26 +117,11 @@ impl Refusal {
     }
 }
 
-impl PartialEq for Refusal {
-    ghost eq = { on number_of nat_eq };
-
-    ghost laws = { partial_equiv_from_equiv (Prim.search (comparing, rules)) };
-
-    // Numbers tell refusals apart, so that equal numbers are equal refusals.
-    fn eq(&self, other: &Refusal) -> bool
-        ensures by_number { result ≡ on number_of nat_eq self.now other.now }
-        ensures same { Decides result (self.now ≡ other.now) }
-    {
-        self.number() == other.number()
-    }
-}
-
 impl fmt::Display for Refusal {
     ghost output = { λ x. Some (words_of x) };
 
     fn fmt<W: fmt::Write>(&self, f: &mut fmt::Formatter<W>) -> fmt::Result {
-        let words = self.words();
-        write!(f, "{words}")
+        f.write_str(self.words())
     }
 }
 
