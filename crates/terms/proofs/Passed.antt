@@ -1,13 +1,13 @@
 -- A walk past one process: the bytes after it, node by node.
-use Rattle.std.proofs.Common.{◌≡◌, ℕ, ◌-◌, ◌<◌, ◌≤◌, List, length, take, drop, Ok, Err, sym, refl, ap, ◌∙◌, arith}
+use Rattle.std.proofs.Common.{◌≡◌, ℕ, ◌-◌, ◌<◌, ◌≤◌, List, length, take, drop, Some, None, Ok, Err, sym, refl, ap, ◌∙◌, arith}
 use Rattle.std.proofs.lemmas.List.{take_rest, length-append}
-use Rattle.calculus.specs.Trees.{Process}
+use Rattle.calculus.specs.Trees.{Process, write}
 use Rattle.terms.specs.declared.head.Head.{Head}
 use Rattle.terms.specs.declared.head.Parts.{Parts}
 use Rattle.terms.specs.declared.head.Parts.TheVariants.{Zero, One, Two}
 use Rattle.terms.specs.Heads.{built, size_of, parts_of, head_of, objects_in}
-use Rattle.terms.specs.Reading.{Scanned, whole, stuck, wrapped, secondly, grown, scan, rest_of}
-use Rattle.terms.proofs.Scanned.{ok_is, scan_head, scan_none, scan_shortens, scan_stuck, head_shorter}
+use Rattle.terms.specs.Reading.{Scanned, whole, stuck, wrapped, secondly, grown, scan, rest_of, size_in}
+use Rattle.terms.proofs.Scanned.{ok_is, scan_head, scan_none, scan_shortens, scan_sound, scan_stuck, head_shorter}
 
 -- wrapping a process changes nothing of what follows it
 rest_wrapped : (node : Process → Process) (s : Scanned) → rest_of (wrapped node s) ≡ rest_of s
@@ -78,3 +78,23 @@ stuck_by ns q (stuck r) is d =
 
 pub stuck_shortens : (ns q : List ℕ) → Err q ≡ rest_of (scan ns) → length q ≤ length ns
 stuck_shortens ns q e = stuck_by ns q (scan ns) refl e
+
+-- how long the process is
+pub size_passed : (ns q : List ℕ) → Ok q ≡ rest_of (scan ns) → Some (length ns - length q) ≡ size_in (scan ns)
+unfolding rest_of size_in
+size_passed ns q e = by_scan (scan ns) refl e
+  where
+    by_scan : (s : Scanned) → scan ns ≡ s → Ok q ≡ rest_of s → Some (length ns - length q) ≡ size_in s
+    by_scan (whole p r) is d =
+        let same : q ≡ r = cc in
+        let long : length ns - length q ≡ length (write p) = omega (arith, ap length (scan_sound ns p r is).0, length-append (write p) r, ap length same) in
+        ap (λ (k : ℕ). Some k) long
+    by_scan (stuck r) is d = let z : ◌≡◌ {A = ℕ} 0 1 = cc in absurd (omega arith)
+
+pub size_stuck : (ns q : List ℕ) → Err q ≡ rest_of (scan ns) → None ≡ size_in (scan ns)
+unfolding rest_of size_in
+size_stuck ns q e = by_scan (scan ns) e
+  where
+    by_scan : (s : Scanned) → Err q ≡ rest_of s → None ≡ size_in s
+    by_scan (whole p r) d = let z : ◌≡◌ {A = ℕ} 0 1 = cc in absurd (omega arith)
+    by_scan (stuck r) d = refl

@@ -1,8 +1,8 @@
 -- Reading as a function. Nothing here has to be believed: the contract of `read` says of trees and what they are written
 -- as which bytes are a term and where others go wrong.
-use Rattle.std.specs.Prelude.{ℕ, zero, suc, ◌-◌, Bool, cond, List, [], ◌∷◌, length, drop, is_ok, Ok, Err, Result, nat_lt}
+use Rattle.std.specs.Prelude.{ℕ, zero, suc, ◌-◌, Bool, cond, List, [], ◌∷◌, length, drop, is_ok, Some, None, Ok, Err, Option, Result, nat_lt}
 use Rattle.std.specs.Borrow.{Bor}
-use Rattle.calculus.specs.Trees.{Process, terminated}
+use Rattle.calculus.specs.Trees.{Process, terminated, write}
 use Rattle.refusal.specs.declared.Fault.{Fault}
 use Rattle.refusal.specs.declared.Refusal.TheVariants.{TermTooLong, NotOneTerm}
 use Rattle.refusal.specs.Writes.{fault}
@@ -73,6 +73,11 @@ tree_of bytes = process_in (scan bytes)
 unfoldable pub rest_of : Scanned → Result (List ℕ) (List ℕ)
 rest_of (whole p ns) = Ok ns
 rest_of (stuck ns) = Err ns
+
+-- the length of the process, where there is one
+unfoldable pub size_in : Scanned → Option ℕ
+size_in (whole p ns) = Some (length (write p))
+size_in (stuck ns) = None
 
 -- the bytes that an answer points to
 unfoldable pub seen : Result (Bor (List ℕ)) (Bor (List ℕ)) → Result (List ℕ) (List ℕ)

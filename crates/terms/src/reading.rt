@@ -1,9 +1,9 @@
 // Bytes are read as a term, node by node.
-ghost use Rattle.std.specs.Prelude.{◌≡◌, ℕ, ◌<◌, ◌≤◌, [], ◌∷◌, length, is_ok, if◌then◌else◌, Err, Decides};
+ghost use Rattle.std.specs.Prelude.{◌≡◌, ℕ, ◌<◌, ◌≤◌, [], ◌∷◌, length, is_ok, if◌then◌else◌, Err, Decides, IfSome};
 ghost use Rattle.refusal.specs.Writes.{fault};
 ghost use Rattle.refusal.specs.declared.Refusal.TheVariants.{TermTooLong, NotOneTerm};
 ghost use Rattle.terms.specs.Fitting.{Fits, LongestStart};
-ghost use Rattle.terms.specs.Reading.{scan, rest_of, seen, reading};
+ghost use Rattle.terms.specs.Reading.{scan, rest_of, size_in, seen, reading};
 ghost use Rattle.terms.specs.Views.{bytes_of, outcome_of};
 
 use crate::head::{Head, Parts};
@@ -28,6 +28,17 @@ pub(crate) fn past(bytes: &[u8]) -> Result<&[u8], &[u8]>
             }
         }
     }
+}
+
+// How many bytes the process at the start takes, if there is one.
+pub(crate) fn size_at_start(bytes: &[u8]) -> Option<usize>
+    ensures size { result ≡ size_in (scan bytes.now) }
+    ensures room { IfSome result (λ n. n ≤ length bytes.now) }
+{
+    let Ok(rest) = past(bytes) else {
+        return None;
+    };
+    Some(bytes.len() - rest.len())
 }
 
 // Whether bytes are a term, and the term that they are; where they are declined, the terminated term.
