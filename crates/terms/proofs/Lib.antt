@@ -11,6 +11,7 @@ pub mod Cleared
 pub mod Parted
 pub mod Locates
 pub mod Nodes
+pub mod Taken
 pub mod Renames
 pub mod Fitted
 pub mod Examples

@@ -1,17 +1,15 @@
 -- A term taken apart: its parts are terms, and make it up.
-use Rattle.std.proofs.Common.{◌≡◌, ℕ, ◌-◌, ◌≤◌, true, List, [], ◌∷◌, length, take, drop, Ok, Err, sym, refl, ap, ◌∙◌, subst, ap₂, arith}
+use Rattle.std.proofs.Common.{◌≡◌, ℕ, ◌-◌, ◌≤◌, true, List, [], ◌∷◌, length, take, drop, Some, Option, Ok, Err, sym, refl, ap, ◌∙◌, subst, ap₂, arith}
 use Rattle.std.proofs.lemmas.List.{length-drop, take_at, take_rest, append-nil}
 use Rattle.calculus.specs.Trees.{Process, terminated, write}
 use Rattle.terms.specs.declared.head.Head.{Head}
 use Rattle.terms.specs.declared.head.Parts.{Parts}
 use Rattle.terms.specs.declared.head.Parts.TheVariants.{Zero, One, Two}
-use Rattle.terms.specs.declared.node.Node.{Node}
 use Rattle.terms.specs.Fitting.{are_bytes}
-use Rattle.terms.specs.Views.{Spare}
 use Rattle.terms.specs.Heads.{built, size_of, parts_of, head_of, objects_in}
-use Rattle.terms.specs.Reading.{whole, scan, scan_with, onward, grown, is_term, tree_of, process_in, rest_of}
+use Rattle.terms.specs.Reading.{whole, scan, scan_with, onward, grown, is_term, tree_of, process_in, size_in, AreTwo}
 use Rattle.terms.proofs.Numbers.{bytes_take, bytes_drop}
-use Rattle.terms.proofs.Parted.{headed, parts_zero, parts_one, parts_two, after_whole, whole_length}
+use Rattle.terms.proofs.Parted.{whole_is, headed, parts_zero, parts_one, parts_two, after_whole, whole_length}
 use Rattle.terms.proofs.Readings.{term_scan, term_bytes, term_written, term_short, scan_term}
 use Rattle.terms.proofs.Scanned.{scan_sound, scan_complete}
 
@@ -19,21 +17,6 @@ use Rattle.terms.proofs.Scanned.{scan_sound, scan_complete}
 pub tree_of_lem : (ns q : List ℕ) (p : Process) → scan ns ≡ whole p q → tree_of ns ≡ p
 unfolding tree_of process_in
 tree_of_lem ns q p e = ap process_in e
-
-pub tree_nothing : tree_of (0 ∷ []) ≡ terminated
-unfolding tree_of process_in scan scan_with onward grown head_of built objects_in
-tree_nothing = refl
-
--- where the first process ends
-pub rest_size : (ns q : List ℕ) → Ok q ≡ rest_of (scan ns) → (p : Process) (r : List ℕ) → scan ns ≡ whole p r → length ns - length q ≡ length (write p)
-unfolding rest_of
-rest_size ns q e p r is =
-    let same : q ≡ r = cc (e, ap rest_of is) in
-    omega (arith, whole_length ns r p is, ap length same)
-
-pub stuck_size : (ns q : List ℕ) → Err q ≡ rest_of (scan ns) → (p : Process) (r : List ℕ) → scan ns ≡ whole p r → 0 ≡ length (write p)
-unfolding rest_of
-stuck_size ns q e p r is = let z : ◌≡◌ {A = ℕ} 0 1 = cc (e, ap rest_of is) in absurd (omega arith)
 
 module _ (ns : List ℕ) (term : is_term ns ≡ true) where
   bytes : are_bytes ns ≡ true
@@ -90,25 +73,18 @@ module _ (ns : List ℕ) (term : is_term ns ≡ true) where
           let right : tree_of (drop n (drop (size_of h) ns)) ≡ r = tree_of_lem (drop n (drop (size_of h) ns)) [] r (ap scan (second_bytes q ms first) ∙ second) in
           cc (made, left, right)
 
--- a node made of what the code cut out
-pub process_made : (h : Head) (os os' a a' b b' : List ℕ) (t : Process) → os' ≡ os → a' ≡ a → b' ≡ b → t ≡ built h os (tree_of a) (tree_of b) → built h os' (tree_of a') (tree_of b') ≡ t
-process_made h os os' a a' b b' t e f g made = cc
+      -- and how long the first is
+      first_size : (q : Process) (ms : List ℕ) → scan (drop (size_of h) ns) ≡ whole q ms → Some n ≡ size_in (scan (drop (size_of h) ns))
+      unfolding size_in
+      first_size q ms e = ap (λ (k : ℕ). Some k) (long q ms e) ∙ sym (ap size_in e)
 
-pub with_nothing : (h : Head) (os : List ℕ) (p t : Process) → t ≡ built h os p terminated → t ≡ built h os p (tree_of (0 ∷ []))
-with_nothing h os p t made = made ∙ ap (built h os p) (sym tree_nothing)
+    -- the bytes after the head of a node of two parts
+    pub two_terms : Two ≡ parts_of h → AreTwo (drop (size_of h) ns)
+    two_terms z =
+        let (q, r, ms, first, second, made) = parts_two ns [] h (tree_of ns) is z (term_scan ns term) in
+        let long : (p : Process) (rest : List ℕ) → scan (drop (size_of h) ns) ≡ whole p rest → length (write q) ≡ length (write p) = λ p rest e. ap (λ (x : Process). length (write x)) (whole_is _ _ _ _ (sym first ∙ e)).0 in
+        (length (write q), first_size z (length (write q)) long q ms first, first_term z (length (write q)) long, second_term z (length (write q)) long)
 
-pub with_two_nothings : (h : Head) (os : List ℕ) (t : Process) → t ≡ built h os terminated terminated → t ≡ built h os (tree_of (0 ∷ [])) (tree_of (0 ∷ []))
-with_two_nothings h os t made = made ∙ cc (tree_nothing)
-
-pub spare_at : (parts : Parts) (node : Node) → parts ≡ parts_of node.head → Spare parts node → Spare (parts_of node.head) node
-spare_at parts node e spare = subst (λ (k : Parts). Spare k node) e spare
-
-module _ (ns : List ℕ) (size n : ℕ) (rest : List ℕ) (is : take (length ns - size) (drop size ns) ≡ rest) where
-  pub first_cut : take (n - 0) (take (length ns - size) (drop size ns)) ≡ take n rest
-  first_cut = let same : n - 0 ≡ n = omega arith in ap₂ (λ (k : ℕ) (x : List ℕ). take k x) same is
-
-  pub second_cut : take (length (take (length ns - size) (drop size ns)) - n) (drop n (take (length ns - size) (drop size ns))) ≡ drop n rest
-  second_cut = take_rest (take (length ns - size) (drop size ns)) n ∙ ap (drop n) is
-
-  pub size_cut : ((p : Process) (r : List ℕ) → scan (take (length ns - size) (drop size ns)) ≡ whole p r → n ≡ length (write p)) → (p : Process) (r : List ℕ) → scan rest ≡ whole p r → n ≡ length (write p)
-  size_cut long p r e = long p r (ap scan is ∙ e)
+    pub parts_made : (z : Two ≡ parts_of h) (n : ℕ) → Some n ≡ size_in (scan (drop (size_of h) ns)) → tree_of ns ≡ built h (objects_in h ns) (tree_of (take n (drop (size_of h) ns))) (tree_of (drop n (drop (size_of h) ns)))
+    unfolding size_in
+    parts_made z n e = two_made z n (λ p rest is. let same : ◌≡◌ {A = Option ℕ} (Some n) (Some (length (write p))) = e ∙ ap size_in is in cc)

@@ -1,6 +1,6 @@
 -- Reading as a function. Nothing here has to be believed: the contract of `read` says of trees and what they are written
 -- as which bytes are a term and where others go wrong.
-use Rattle.std.specs.Prelude.{ℕ, zero, suc, ◌-◌, Bool, cond, List, [], ◌∷◌, length, drop, is_ok, Some, None, Ok, Err, Option, Result, nat_lt}
+use Rattle.std.specs.Prelude.{◌≡◌, ℕ, zero, suc, ◌-◌, Bool, true, cond, List, [], ◌∷◌, length, take, drop, is_ok, Some, None, Ok, Err, Option, Result, nat_lt}
 use Rattle.std.specs.Borrow.{Bor}
 use Rattle.calculus.specs.Trees.{Process, terminated, write}
 use Rattle.refusal.specs.declared.Fault.{Fault}
@@ -78,6 +78,10 @@ rest_of (stuck ns) = Err ns
 unfoldable pub size_in : Scanned → Option ℕ
 size_in (whole p ns) = Some (length (write p))
 size_in (stuck ns) = None
+
+-- two terms, one after the other
+abbrev pub AreTwo : List ℕ → Type 0
+AreTwo ns = (n : ℕ) × (Some n ≡ size_in (scan ns)) × (is_term (take n ns) ≡ true) × (is_term (drop n ns) ≡ true)
 
 -- the bytes that an answer points to
 unfoldable pub seen : Result (Bor (List ℕ)) (Bor (List ℕ)) → Result (List ℕ) (List ℕ)

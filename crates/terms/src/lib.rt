@@ -14,5 +14,5 @@ pub use finding::Place;
 pub use head::{Head, Parts};
 pub use names::Renaming;
 pub use node::Node;
-pub use reading::{LONGEST_TERM, Reading, read};
+pub use reading::{LONGEST_TERM, read};
 pub use term::Term;

@@ -1,78 +1,84 @@
-// A term is taken apart into its head and its parts, and compared with another.
-ghost use Rattle.std.specs.Prelude.{◌≡◌, ℕ, ◌≤◌, List, length, Decides};
-ghost use Rattle.calculus.specs.Trees.{Process, write};
-ghost use Rattle.terms.specs.Heads.{objects_of, parts_of};
-ghost use Rattle.terms.specs.Reading.{scan, whole};
-ghost use Rattle.terms.specs.Views.{tree, process_of, Spare};
+// A term is taken apart into its topmost node and the terms below it.
+ghost use Rattle.std.specs.Prelude.{◌≡◌, ◌≤◌, ℕ, Some, take, drop};
+ghost use Rattle.terms.specs.Reading.{scan, size_in, AreTwo};
+ghost use Rattle.terms.specs.Views.{bytes_of, tree, process_of, count_of};
 
-use crate::head::{Head, Parts};
-use crate::reading::past;
+use crate::head::Head;
+use crate::reading::size_at_start;
 use crate::term::{Term, known};
 
-// The topmost node of a term: its head, the objects of an output, and its parts. A part that it does not have is the
-// terminated term.
-#[derive(Clone, Copy)]
-pub struct Node<'a> {
-    pub head: Head,
-    pub objects: &'a [u8],
-    pub first: Term<'a>,
-    pub second: Term<'a>,
+// The topmost node of a term, with what stands in it and below it.
+#[derive(Clone, Copy, PartialEq, Eq, Debug)]
+pub enum Node<'a> {
+    Terminated,
+    Output {
+        subject: u8,
+        objects: &'a [u8],
+        continuation: Term<'a>,
+    },
+    Input {
+        subject: u8,
+        count: u8,
+        continuation: Term<'a>,
+    },
+    Choice(Term<'a>, Term<'a>),
+    Parallel(Term<'a>, Term<'a>),
+    Restriction {
+        sort: u8,
+        body: Term<'a>,
+    },
+    Replication(Term<'a>),
 }
 
 impl<'a> Term<'a> {
     // Its topmost node.
     pub fn node(&self) -> Node<'a>
         ensures process { process_of result ≡ tree self.now }
-        ensures objects { length result.objects.now ≡ objects_of result.head }
-        ensures spare { Spare (parts_of result.head) result }
+        ensures few { count_of result ≤ 8 }
     {
         let bytes = self.bytes();
         let Ok(head) = Head::read(bytes) else {
             unreachable()
         };
         let size = head.size();
-        let objects = &bytes[size - head.objects()..size];
-        let rest = &bytes[size..];
-        match head.parts() {
-            Parts::Zero => Node {
-                head,
-                objects,
-                first: known(&[0]),
-                second: known(&[0]),
+        let below = &bytes[size..];
+        match head {
+            Head::Terminated => Node::Terminated,
+            Head::Output { subject, .. } => Node::Output {
+                subject,
+                objects: &bytes[3..size],
+                continuation: known(below),
             },
-            Parts::One => Node {
-                head,
-                objects,
-                first: known(rest),
-                second: known(&[0]),
+            Head::Input { subject, count } => Node::Input {
+                subject,
+                count,
+                continuation: known(below),
             },
-            Parts::Two => {
-                let split = first_size(rest);
-                Node {
-                    head,
-                    objects,
-                    first: known(&rest[0..split]),
-                    second: known(&rest[split..]),
-                }
+            Head::Choice => {
+                let (left, right) = both(below);
+                Node::Choice(left, right)
             }
+            Head::Parallel => {
+                let (left, right) = both(below);
+                Node::Parallel(left, right)
+            }
+            Head::Restriction { sort } => Node::Restriction {
+                sort,
+                body: known(below),
+            },
+            Head::Replication => Node::Replication(known(below)),
         }
-    }
-
-    // Whether two terms are the same.
-    pub fn same_as(&self, other: &Term<'_>) -> bool
-        ensures { Decides result (tree self.now ≡ tree other.now) }
-    {
-        self.bytes() == other.bytes()
     }
 }
 
-// How many bytes the process at the start takes; none where there is no process.
-fn first_size(bytes: &[u8]) -> usize
-    ensures room { result ≤ length bytes.now }
-    ensures size { (p : Process) (ns : List ℕ) → scan bytes.now ≡ whole p ns → result ≡ length (write p) }
+// The two terms that the bytes are, one after the other.
+fn both(bytes: &[u8]) -> (Term<'_>, Term<'_>)
+    requires { AreTwo bytes.now }
+    ensures { (n : ℕ) → Some n ≡ size_in (scan bytes.now) → (bytes_of result.0 ≡ take n bytes.now) × (bytes_of result.1 ≡ drop n bytes.now) }
 {
-    match past(bytes) {
-        Ok(rest) => bytes.len() - rest.len(),
-        Err(_) => 0,
-    }
+    let Some(size) = size_at_start(bytes) else {
+        unreachable()
+    };
+    let (first, second) = bytes.split_at(size);
+    (known(first), known(second))
 }

@@ -1,10 +1,10 @@
 // Bytes are read as a term, node by node.
-ghost use Rattle.std.specs.Prelude.{◌≡◌, ℕ, ◌<◌, ◌≤◌, [], ◌∷◌, length, is_ok, if◌then◌else◌, Err, Decides, IfSome};
+ghost use Rattle.std.specs.Prelude.{◌≡◌, ℕ, ◌<◌, ◌≤◌, length, Err, IfSome, IfOk, IsOk, ◌↔◌};
 ghost use Rattle.refusal.specs.Writes.{fault};
 ghost use Rattle.refusal.specs.declared.Refusal.TheVariants.{TermTooLong, NotOneTerm};
 ghost use Rattle.terms.specs.Fitting.{Fits, LongestStart};
 ghost use Rattle.terms.specs.Reading.{scan, rest_of, size_in, seen, reading};
-ghost use Rattle.terms.specs.Views.{bytes_of, outcome_of};
+ghost use Rattle.terms.specs.Views.{bytes_of, outcome_of, read_as};
 
 use crate::head::{Head, Parts};
 use crate::term::{Term, known};
@@ -41,54 +41,30 @@ pub(crate) fn size_at_start(bytes: &[u8]) -> Option<usize>
     Some(bytes.len() - rest.len())
 }
 
-// Whether bytes are a term, and the term that they are; where they are declined, the terminated term.
-#[derive(Clone, Copy)]
-pub struct Reading<'a> {
-    pub outcome: Result<(), Fault>,
-    pub term: Term<'a>,
-}
-
 // Whether bytes are one whole term of at most 4,096 bytes, or the fault for which they are declined.
 fn examine(bytes: &[u8]) -> Result<(), Fault>
     ensures { result ≡ outcome_of (reading bytes.now) }
 {
     let size = bytes.len();
     if size > LONGEST_TERM {
-        return Err(Fault {
-            refusal: Refusal::TermTooLong,
-            place: 0,
-        });
+        return Err(Refusal::TermTooLong.at(0));
     }
     let refusal = Refusal::NotOneTerm;
     match past(bytes) {
         Ok(rest) if rest.is_empty() => Ok(()),
-        Ok(rest) => Err(Fault {
-            refusal,
-            place: size - rest.len(),
-        }),
-        Err(rest) => Err(Fault {
-            refusal,
-            place: size - rest.len(),
-        }),
+        Ok(rest) => Err(refusal.at(size - rest.len())),
+        Err(rest) => Err(refusal.at(size - rest.len())),
     }
 }
 
-// Reads bytes as one whole term of at most 4,096 bytes.
-pub fn read<'a>(bytes: &'a [u8]) -> Reading<'a>
-    ensures answer { result.outcome ≡ outcome_of (reading bytes.now) }
-    ensures term { bytes_of result.term ≡ (if is_ok result.outcome then bytes.now else 0 ∷ []) }
-    ensures fits { Decides (is_ok result.outcome) (Fits bytes.now) }
-    ensures long { 4096 < length bytes.now → result.outcome ≡ Err (fault TermTooLong 0) }
-    ensures refused { length bytes.now ≤ 4096 → (Fits bytes.now → ⊥) → (place : ℕ) × (result.outcome ≡ Err (fault NotOneTerm place)) × LongestStart bytes.now place }
+// Reads bytes as one whole term of at most 4,096 bytes, or tells the fault for which they are declined.
+pub fn read(bytes: &[u8]) -> Result<Term<'_>, Fault>
+    ensures answer { read_as result ≡ reading bytes.now }
+    ensures term { IfOk result (λ term. bytes_of term ≡ bytes.now) }
+    ensures fits { IsOk result ↔ Fits bytes.now }
+    ensures long { 4096 < length bytes.now → result ≡ Err (fault TermTooLong 0) }
+    ensures refused { length bytes.now ≤ 4096 → (Fits bytes.now → ⊥) → (place : ℕ) × (result ≡ Err (fault NotOneTerm place)) × LongestStart bytes.now place }
 {
-    match examine(bytes) {
-        Ok(()) => Reading {
-            outcome: Ok(()),
-            term: known(bytes),
-        },
-        Err(fault) => Reading {
-            outcome: Err(fault),
-            term: known(&[0]),
-        },
-    }
+    examine(bytes)?;
+    Ok(known(bytes))
 }

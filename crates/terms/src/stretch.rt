@@ -2,6 +2,7 @@
 ghost use Rattle.std.specs.Prelude.{◌≡◌, true, ◌+◌, ◌*◌, ◌^◌, ◌<◌, ◌≤◌, length, drop, IfSome, IsNone, IsErr, ◌↔◌, Ok};
 ghost use Rattle.terms.specs.Heads.{size_of, binds_of, head_of};
 ghost use Rattle.terms.specs.Reading.{is_term};
+ghost use Rattle.terms.specs.Views.{bytes_of};
 
 use crate::head::Head;
 use crate::term::Term;
@@ -18,7 +19,7 @@ pub(crate) struct Stretch<'a> {
 impl<'a> Stretch<'a> {
     // A whole term.
     pub(crate) fn of(term: &Term<'a>) -> Stretch<'a>
-        ensures bytes { result.bytes.now ≡ term.now.bytes.now }
+        ensures bytes { result.bytes.now ≡ bytes_of term.now }
         ensures term { is_term result.bytes.now ≡ true }
         ensures bound { result.bound ≡ 0 }
     {

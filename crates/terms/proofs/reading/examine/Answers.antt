@@ -1,5 +1,6 @@
-use Rattle.std.proofs.Common.{length, sym, arith}
+use Rattle.std.proofs.Common.{length, Err, sym, ap, ◌∙◌, arith}
 use Rattle.std.proofs.lemmas.Bool.{eqb-true}
+use Rattle.refusal.specs.declared.Fault.{Fault}
 use Rattle.terms.specs.Reading.{seen}
 use Rattle.terms.proofs.Heads.{not_empty}
 use Rattle.terms.proofs.Passed.{past_shortens, stuck_shortens}
@@ -8,15 +9,15 @@ use Rattle.terms.proofs.Examined.{examined_long, examined_whole, examined_left, 
 use Rattle.terms.proofs.reading.examine.Goals as goal
 
 pub returns-then-size-gt-LONGEST_TERM : goal.returns-then-size-gt-LONGEST_TERM
-returns-then-size-gt-LONGEST_TERM c = examined_long c.args.bytes.now c.if-size-gt-LONGEST_TERM.true
+returns-then-size-gt-LONGEST_TERM c = ap (λ (f : Fault). Err f) c.at.ensures ∙ examined_long c.args.bytes.now c.if-size-gt-LONGEST_TERM.true
 
-pub overflow_sub-result : goal.overflow_sub-result
+pub overflow_sub-size : goal.overflow_sub-size
 unfolding seen
-overflow_sub-result c = past_shortens c.args.bytes.now c.in-Ok.rest.now c.in-Ok.ensures
+overflow_sub-size c = past_shortens c.args.bytes.now c.in-Ok.rest.now c.in-Ok.ensures
 
-pub overflow_sub-result-in-Err : goal.overflow_sub-result-in-Err
+pub overflow_sub-size-in-Err : goal.overflow_sub-size-in-Err
 unfolding seen
-overflow_sub-result-in-Err c = stuck_shortens c.args.bytes.now c.in-Err.rest.now c.in-Err.ensures
+overflow_sub-size-in-Err c = stuck_shortens c.args.bytes.now c.in-Err.rest.now c.in-Err.ensures
 
 pub returns-in-Ok : goal.returns-in-Ok
 unfolding seen
@@ -29,11 +30,13 @@ pub returns-in-Ok-2 : goal.returns-in-Ok-2
 unfolding seen
 returns-in-Ok-2 c =
     let bytes = typed_bytes c.args.bytes.now (λ i. omega (arith, c.type_inv.bytes i)) in
-    examined_left c.args.bytes.now c.in-Ok.rest.now bytes c.if-size-gt-LONGEST_TERM.false c.in-Ok.ensures
+    ap (λ (f : Fault). Err f) c.at-in-Ok-2.ensures
+    ∙ examined_left c.args.bytes.now c.in-Ok.rest.now bytes c.if-size-gt-LONGEST_TERM.false c.in-Ok.ensures
     (not_empty (length c.in-Ok.rest.now) c.if-is_empty.ensures)
 
 pub returns-in-Err : goal.returns-in-Err
 unfolding seen
 returns-in-Err c =
     let bytes = typed_bytes c.args.bytes.now (λ i. omega (arith, c.type_inv.bytes i)) in
-    examined_stuck c.args.bytes.now c.in-Err.rest.now bytes c.if-size-gt-LONGEST_TERM.false c.in-Err.ensures
+    ap (λ (f : Fault). Err f) c.at-in-Err.ensures
+    ∙ examined_stuck c.args.bytes.now c.in-Err.rest.now bytes c.if-size-gt-LONGEST_TERM.false c.in-Err.ensures
