@@ -7,7 +7,7 @@ ghost use Rattle.terms.specs.Heads.{size_of, subjects_of, objects_of, binds_of, 
 const MOST_NAMES: u8 = 8;
 
 // What kind of node it is, with its own numbers; the objects of an output follow its count.
-#[derive(Clone, Copy)]
+#[derive(Clone, Copy, PartialEq, Eq, Debug)]
 pub enum Head {
     Terminated,
     Output { subject: u8, count: u8 },
@@ -19,7 +19,7 @@ pub enum Head {
 }
 
 // How many processes a node has as its parts.
-#[derive(Clone, Copy)]
+#[derive(Clone, Copy, PartialEq, Eq, Debug)]
 pub enum Parts {
     Zero,
     One,

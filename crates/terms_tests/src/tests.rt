@@ -1,7 +1,8 @@
 // Examples of reading, finding and renaming, and every refusal at its place.
-use refusal::{Fault, Refusal};
+use refusal::Refusal;
 use std::process::Abort;
-use terms::{Head, LONGEST_TERM, Place, Renaming, read};
+use std::test::Fail;
+use terms::{LONGEST_TERM, Node, Place, Renaming, Term, read};
 
 // x̄⟨y⟩.0 ∣ x(u).0
 const SAMPLE: [u8; 10] = [4, 1, 0, 1, 1, 0, 2, 0, 1, 0];
@@ -9,13 +10,19 @@ const SAMPLE: [u8; 10] = [4, 1, 0, 1, 1, 0, 2, 0, 1, 0];
 // What a buffer holds before a call.
 const OLD: u8 = 0xee;
 
-fn declined(refusal: Refusal, place: usize) -> Result<(), Fault> {
-    Err(Fault { refusal, place })
+// The term that bytes are.
+fn term<'a>(rt: &impl Abort, bytes: &'a [u8]) -> Term<'a> {
+    read(bytes).expect(rt, "the bytes are one whole term")
+}
+
+// The bytes are declined for that cause, at that place.
+fn declined(rt: &impl Abort, bytes: &[u8], refusal: Refusal, place: usize) {
+    assert_eq!(rt; read(bytes).err(), Some(refusal.at(place)));
 }
 
 // The bytes are declined as no whole term, at that place.
 fn no_term(rt: &impl Abort, bytes: &[u8], place: usize) {
-    assert_eq!(rt; read(bytes).outcome, declined(Refusal::NotOneTerm, place));
+    declined(rt, bytes, Refusal::NotOneTerm, place);
 }
 
 fn found(from: usize, end: usize, bound: usize, active: bool) -> Option<Place> {
@@ -29,33 +36,25 @@ fn found(from: usize, end: usize, bound: usize, active: bool) -> Option<Place> {
 
 // The term renamed is that one, written to the start of a longer buffer.
 fn renames(rt: &impl Abort, bytes: &[u8], renaming: Renaming<'_>, to: &[u8]) {
-    let term = read(bytes);
-    assert_eq!(rt; term.outcome, Ok(()));
+    let term = term(rt, bytes);
     let mut out = [OLD; 64];
     assert!(rt; to.len() < 64);
-    assert!(rt; !term.term.overflows(renaming));
-    assert_eq!(rt; term.term.rename(renaming, &mut out), Ok(to.len()));
+    assert!(rt; !term.overflows(renaming));
+    assert_eq!(rt; term.rename(renaming, &mut out), Ok(to.len()));
     assert!(rt; &out[0..to.len()] == to);
     assert_eq!(rt; out[to.len()], OLD);
 }
 
 // A pointer would pass 255, and the buffer stays.
 fn overflows(rt: &impl Abort, bytes: &[u8], renaming: Renaming<'_>) {
-    let term = read(bytes);
-    assert_eq!(rt; term.outcome, Ok(()));
+    let term = term(rt, bytes);
     let mut out = [OLD; 64];
-    assert!(rt; term.term.overflows(renaming));
-    let answer = term.term.rename(renaming, &mut out);
+    assert!(rt; term.overflows(renaming));
     assert_eq!(rt;
-        answer,
-        Err(Fault {
-            refusal: Refusal::PointerOverflow,
-            place: 0,
-        })
+        term.rename(renaming, &mut out),
+        Err(Refusal::PointerOverflow.at(0))
     );
-    for byte in &out {
-        assert_eq!(rt; *byte, OLD);
-    }
+    assert!(rt; out.iter().all(|byte| *byte == OLD));
 }
 
 // An output on that pointer below 31 inputs of count 8 and one of that count.
@@ -86,16 +85,11 @@ fn parallels(count: usize) -> [u8; LONGEST_TERM] {
 
 #[test]
 fn a_term_is_read(rt: HostRuntime) {
-    let sample = read(&SAMPLE);
-    assert_eq!(rt; sample.outcome, Ok(()));
-    assert!(rt; sample.term.bytes() == &SAMPLE[0..10]);
-    assert_eq!(rt; read(&[0]).outcome, Ok(()));
-    assert_eq!(rt;
-        read(&[1, 255, 8, 0, 1, 2, 3, 4, 5, 6, 255, 0]).outcome,
-        Ok(())
-    );
-    assert_eq!(rt; read(&[2, 255, 8, 0]).outcome, Ok(()));
-    assert_eq!(rt; read(&[3, 6, 0, 5, 255, 0]).outcome, Ok(()));
+    assert!(rt; term(&rt, &SAMPLE).bytes() == &SAMPLE[0..10]);
+    assert!(rt; read(&[0]).is_ok());
+    assert!(rt; read(&[1, 255, 8, 0, 1, 2, 3, 4, 5, 6, 255, 0]).is_ok());
+    assert!(rt; read(&[2, 255, 8, 0]).is_ok());
+    assert!(rt; read(&[3, 6, 0, 5, 255, 0]).is_ok());
 }
 
 #[test]
@@ -144,12 +138,9 @@ fn bytes_that_cannot_stand_are_told_where_they_are(rt: HostRuntime) {
 fn long_terms_are_read_to_the_limit(rt: HostRuntime) {
     let mut bytes = [6u8; 4098];
     bytes[4095] = 0;
-    assert_eq!(rt; read(&bytes[0..LONGEST_TERM]).outcome, Ok(()));
-    assert_eq!(rt;
-        read(&bytes[0..4097]).outcome,
-        declined(Refusal::TermTooLong, 0)
-    );
-    assert_eq!(rt; read(&bytes).outcome, declined(Refusal::TermTooLong, 0));
+    assert!(rt; read(&bytes[0..LONGEST_TERM]).is_ok());
+    declined(&rt, &bytes[0..4097], Refusal::TermTooLong, 0);
+    declined(&rt, &bytes, Refusal::TermTooLong, 0);
     no_term(&rt, &bytes[0..4095], 4095);
     bytes[4094] = 0;
     no_term(&rt, &bytes[0..LONGEST_TERM], 4095);
@@ -158,7 +149,7 @@ fn long_terms_are_read_to_the_limit(rt: HostRuntime) {
 
 #[test]
 fn nodes_are_found_where_they_begin(rt: HostRuntime) {
-    let sample = read(&SAMPLE).term;
+    let sample = term(&rt, &SAMPLE);
     assert_eq!(rt; sample.find(0), found(0, 10, 0, true));
     assert_eq!(rt; sample.find(1), found(1, 6, 0, true));
     assert_eq!(rt; sample.find(2), None);
@@ -170,7 +161,7 @@ fn nodes_are_found_where_they_begin(rt: HostRuntime) {
     assert_eq!(rt; sample.find(10), None);
     assert_eq!(rt; sample.find(usize::MAX), None);
     // restrictions, a choice, a replication and an input above
-    let deep = read(&[5, 1, 5, 2, 4, 3, 0, 0, 6, 2, 0, 2, 0]).term;
+    let deep = term(&rt, &[5, 1, 5, 2, 4, 3, 0, 0, 6, 2, 0, 2, 0]);
     assert_eq!(rt; deep.find(2), found(2, 13, 1, true));
     assert_eq!(rt; deep.find(5), found(5, 8, 2, true));
     assert_eq!(rt; deep.find(6), found(6, 7, 2, false));
@@ -182,50 +173,59 @@ fn nodes_are_found_where_they_begin(rt: HostRuntime) {
 }
 
 #[test]
-fn terms_are_taken_apart(rt: HostRuntime) {
-    let node = read(&SAMPLE).term.node();
-    assert!(rt; matches!(node.head, Head::Parallel));
-    assert!(rt; node.first.bytes() == &SAMPLE[1..6]);
-    assert!(rt; node.second.bytes() == &SAMPLE[6..10]);
-    let sender = node.first.node();
-    assert!(rt;
-        matches!(
-            sender.head,
-            Head::Output {
-                subject: 0,
-                count: 1
-            }
-        )
-    );
-    assert!(rt; sender.objects == &SAMPLE[4..5]);
-    assert!(rt; sender.first.bytes() == &SAMPLE[5..6]);
-    let receiver = node.second.node();
-    assert!(rt;
-        matches!(
-            receiver.head,
-            Head::Input {
-                subject: 0,
-                count: 1
-            }
-        )
-    );
-    assert!(rt; receiver.first.same_as(&sender.first));
-    assert!(rt; !receiver.first.same_as(&node.first));
+fn terms_are_taken_apart(rt: HostRuntime) -> Result<(), Fail> {
+    let Node::Parallel(left, right) = term(&rt, &SAMPLE).node() else {
+        return Err(Fail::new("the sample is a parallel"));
+    };
+    assert!(rt; left.bytes() == &SAMPLE[1..6]);
+    assert!(rt; right.bytes() == &SAMPLE[6..10]);
+    let Node::Output {
+        subject,
+        objects,
+        continuation: sent,
+    } = left.node()
+    else {
+        return Err(Fail::new("its left part is an output"));
+    };
+    assert_eq!(rt; subject, 0);
+    assert_eq!(rt; objects.len(), 1);
+    assert!(rt; objects == &SAMPLE[4..5]);
+    assert!(rt; sent.bytes() == &SAMPLE[5..6]);
+    let Node::Input {
+        subject,
+        count,
+        continuation: received,
+    } = right.node()
+    else {
+        return Err(Fail::new("its right part is an input"));
+    };
+    assert_eq!(rt; subject, 0);
+    assert_eq!(rt; count, 1);
+    assert!(rt; received.same_as(&sent));
+    assert!(rt; !received.same_as(&left));
+    Ok(())
 }
 
 #[test]
-fn free_pointers_are_seen_through_binders(rt: HostRuntime) {
+fn free_pointers_are_seen_through_binders(rt: HostRuntime) -> Result<(), Fail> {
     // x(u).ū⟨x⟩ with x the free name 0
-    let term = read(&[2, 0, 1, 1, 0, 1, 1, 0]).term;
-    assert!(rt; term.has_free(0));
-    assert!(rt; !term.has_free(1));
-    let body = term.node().first;
+    let input = term(&rt, &[2, 0, 1, 1, 0, 1, 1, 0]);
+    assert!(rt; input.has_free(0));
+    assert!(rt; !input.has_free(1));
+    let Node::Input {
+        continuation: body,
+        ..
+    } = input.node()
+    else {
+        return Err(Fail::new("the term is an input"));
+    };
     assert!(rt; body.has_free(0));
     assert!(rt; body.has_free(1));
     // below a restriction the free name 254 is pointer 255, and the free name 255 cannot be written
-    let deep = read(&[5, 0, 1, 255, 0, 0]).term;
+    let deep = term(&rt, &[5, 0, 1, 255, 0, 0]);
     assert!(rt; deep.has_free(254));
     assert!(rt; !deep.has_free(255));
+    Ok(())
 }
 
 #[test]
@@ -254,16 +254,8 @@ fn pointers_rise_and_fall_by_one(rt: HostRuntime) {
     );
     overflows(&rt, &[5, 0, 1, 255, 0, 0], Renaming::raise());
     // 255 stays where 256 names are bound
-    assert!(rt;
-        !read(&below_inputs(8, 255))
-            .term
-            .overflows(Renaming::raise())
-    );
-    assert!(rt;
-        read(&below_inputs(7, 255))
-            .term
-            .overflows(Renaming::raise())
-    );
+    assert!(rt; !term(&rt, &below_inputs(8, 255)).overflows(Renaming::raise()));
+    assert!(rt; term(&rt, &below_inputs(7, 255)).overflows(Renaming::raise()));
 }
 
 #[test]
@@ -275,21 +267,9 @@ fn pointers_are_exchanged_under_binders(rt: HostRuntime) {
         &[2, 1, 2, 1, 3, 3, 0, 2, 4, 0],
     );
     // under 255 bound names pointer 255 would become 256, and 254 stays
-    assert!(rt;
-        read(&below_inputs(7, 255))
-            .term
-            .overflows(Renaming::exchange())
-    );
-    assert!(rt;
-        !read(&below_inputs(7, 254))
-            .term
-            .overflows(Renaming::exchange())
-    );
-    assert!(rt;
-        !read(&below_inputs(6, 255))
-            .term
-            .overflows(Renaming::exchange())
-    );
+    assert!(rt; term(&rt, &below_inputs(7, 255)).overflows(Renaming::exchange()));
+    assert!(rt; !term(&rt, &below_inputs(7, 254)).overflows(Renaming::exchange()));
+    assert!(rt; !term(&rt, &below_inputs(6, 255)).overflows(Renaming::exchange()));
 }
 
 #[test]
@@ -325,15 +305,11 @@ fn objects_are_sent_to_their_depth(rt: HostRuntime) {
 
 #[test]
 fn a_buffer_must_be_long_enough(rt: HostRuntime) {
-    let sample = read(&SAMPLE).term;
+    let sample = term(&rt, &SAMPLE);
     let mut short = [OLD; 9];
-    let answer = sample.rename(Renaming::raise(), &mut short);
     assert_eq!(rt;
-        answer,
-        Err(Fault {
-            refusal: Refusal::BufferTooShort,
-            place: 0,
-        })
+        sample.rename(Renaming::raise(), &mut short),
+        Err(Refusal::BufferTooShort.at(0))
     );
     assert_eq!(rt; short[0], OLD);
     let mut out = [OLD; 10];
@@ -346,17 +322,15 @@ fn a_buffer_must_be_long_enough(rt: HostRuntime) {
 fn the_deepest_term_has_stack_enough(rt: HostRuntime) {
     let mut bytes = [6u8; LONGEST_TERM];
     bytes[4095] = 0;
-    let term = read(&bytes);
-    assert_eq!(rt; term.outcome, Ok(()));
+    let deepest = term(&rt, &bytes);
     let mut out = [OLD; LONGEST_TERM];
-    assert_eq!(rt; term.term.rename(Renaming::raise(), &mut out), Ok(4096));
+    assert_eq!(rt; deepest.rename(Renaming::raise(), &mut out), Ok(4096));
     assert!(rt; &out[0..4096] == &bytes[0..4096]);
-    assert!(rt; !term.term.has_free(0));
-    assert_eq!(rt; term.term.find(4095), found(4095, 4096, 0, false));
+    assert!(rt; !deepest.has_free(0));
+    assert_eq!(rt; deepest.find(4095), found(4095, 4096, 0, false));
     // and one that is deep on the left: 2,047 parallels, then 2,049 terminated, of which one is left over
     let left = parallels(2047);
     no_term(&rt, &left, 4095);
-    let whole = read(&left[0..4095]);
-    assert_eq!(rt; whole.outcome, Ok(()));
-    assert_eq!(rt; whole.term.find(4094), found(4094, 4095, 0, true));
+    let whole = term(&rt, &left[0..4095]);
+    assert_eq!(rt; whole.find(4094), found(4094, 4095, 0, true));
 }
