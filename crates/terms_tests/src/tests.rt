@@ -1,5 +1,6 @@
 // Examples of reading, finding and renaming, and every refusal at its place.
 use refusal::Refusal;
+use std::array;
 use std::process::Abort;
 use std::test::Fail;
 use terms::{LONGEST_TERM, Node, Place, Renaming, Term, read};
@@ -59,28 +60,20 @@ fn overflows(rt: &impl Abort, bytes: &[u8], renaming: Renaming<'_>) {
 
 // An output on that pointer below 31 inputs of count 8 and one of that count.
 fn below_inputs(count: u8, pointer: u8) -> [u8; 100] {
-    let mut bytes = [0u8; 100];
-    for (i, byte) in bytes.iter_mut().enumerate() {
-        *byte = match i {
-            95 => count,
-            96 => 1,
-            97 => pointer,
-            98 | 99 => 0,
-            _ if i % 3 == 0 => 2,
-            _ if i % 3 == 1 => 0,
-            _ => 8,
-        };
-    }
-    bytes
+    array::from_fn(|i| match i {
+        95 => count,
+        96 => 1,
+        97 => pointer,
+        98 | 99 => 0,
+        _ if i % 3 == 0 => 2,
+        _ if i % 3 == 1 => 0,
+        _ => 8,
+    })
 }
 
 // So many parallels, each the left part of the one before, and then nothing but terminated processes.
 fn parallels(count: usize) -> [u8; LONGEST_TERM] {
-    let mut bytes = [0u8; LONGEST_TERM];
-    for (i, byte) in bytes.iter_mut().enumerate() {
-        *byte = if i < count { 4 } else { 0 };
-    }
-    bytes
+    array::from_fn(|i| if i < count { 4 } else { 0 })
 }
 
 #[test]
