@@ -1,12 +1,13 @@
 -- The node at an offset of a term, and what stands around it.
-use Rattle.std.specs.Prelude.{◌≡◌, ℕ, suc, ◌+◌, ◌-◌, ◌≤◌, Bool, true, cond, ◌&&◌, List, ◌++◌, length, take, drop, Some, None, Option, ◌≢◌, nat_lt}
+use Rattle.std.specs.Prelude.{◌≡◌, ℕ, suc, ◌+◌, ◌-◌, Bool, true, cond, ◌&&◌, List, ◌++◌, length, take, drop, Some, None, Option, ◌≢◌, nat_lt}
+use Rattle.std.specs.declared.ops.ControlFlow.{ControlFlow}
+use Rattle.std.specs.declared.ops.ControlFlow.TheVariants.{Continue, Break}
 use Rattle.calculus.specs.Trees.{Process, write}
 use Rattle.calculus.specs.Contexts.{Context, hole, below_output, below_input, in_left_arm, in_right_arm, in_left_part, in_right_part, below_restriction, below_replication, fill, before, after, place, active}
 use Rattle.calculus.specs.Playing.{node_at}
 use Rattle.terms.specs.Reading.{is_term}
 use Rattle.terms.specs.declared.finding.Place.{Place}
-use Rattle.terms.specs.declared.finding.Located.{Located}
-use Rattle.terms.specs.declared.finding.Located.TheVariants.{Here, Past, Nowhere}
+use Rattle.terms.specs.declared.finding.Found.{Found}
 
 -- how many names are bound above the hole: in the node there, the pointers below that number
 unfoldable pub bound_above : Context → ℕ
@@ -45,22 +46,11 @@ abbrev pub PartOf : List ℕ → Option Place → Type 0
 PartOf bytes None = Unit {0}
 PartOf bytes (Some found) = is_term (take (found.end - found.from) (drop found.from bytes)) ≡ true
 
--- the walk: a node there, the offset past the process, or no node there
-unfoldable pub here_or : ℕ → Bool → Option (Context × Process) → Located
-here_or bound open_above None = Nowhere
-here_or bound open_above (Some (c, p)) = Here (length (write p)) (bound + bound_above c) (open_above && active c)
+-- the node that a walk comes to, if there is one, below so many names bound
+unfoldable pub found_under : ℕ → Bool → Option (Context × Process) → Option Found
+found_under bound open_above None = None
+found_under bound open_above (Some (c, p)) = Some (record { size = length (write p); bound = bound + bound_above c; active = open_above && active c })
 
-unfoldable pub located_in : ℕ → ℕ → Bool → Process → Located
-located_in offset bound open_above t = cond (nat_lt offset (length (write t))) (here_or bound open_above (node_at offset t)) (Past (length (write t)))
-
--- past so many more bytes
-unfoldable pub later : ℕ → Located → Located
-later n (Here size bound active) = Here size bound active
-later n (Past m) = Past (n + m)
-later n Nowhere = Nowhere
-
--- a walk that comes past the process does so within its bytes, before the offset
-abbrev pub PassedBy : ℕ → ℕ → Located → Type 0
-PassedBy offset long (Here size bound active) = size ≤ long
-PassedBy offset long (Past size) = (size ≤ long) × (size ≤ offset)
-PassedBy offset long Nowhere = Unit {0}
+-- the walk breaks off with the node there, or with none, and goes on past a process that ends before the offset
+unfoldable pub located_in : ℕ → ℕ → Bool → Process → ControlFlow (Option Found) ℕ
+located_in offset bound open_above t = cond (nat_lt offset (length (write t))) (Break (found_under bound open_above (node_at offset t))) (Continue (length (write t)))
