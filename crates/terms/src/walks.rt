@@ -107,18 +107,12 @@ impl Term<'_> {
         ensures term { IfOk result (λ n. is_term (take n out.new) ≡ true) }
     {
         if self.overflows(renaming) {
-            return Err(Fault {
-                refusal: Refusal::PointerOverflow,
-                place: 0,
-            });
+            return Err(Refusal::PointerOverflow.at(0));
         }
         let bytes = self.bytes();
         let size = bytes.len();
         if out.len() < size {
-            return Err(Fault {
-                refusal: Refusal::BufferTooShort,
-                place: 0,
-            });
+            return Err(Refusal::BufferTooShort.at(0));
         }
         out[0..size].copy_from_slice(bytes);
         let _size = rename_in_place(&renaming, 0, &mut out[0..size]);
