@@ -3,47 +3,8 @@ use Rattle.std.proofs.Common.{◌≡◌, ℕ, ◌+◌, ◌-◌, ◌<◌, ◌≤�
 use Rattle.std.proofs.lemmas.List.{at_drop_more, at_drop_all}
 use Rattle.std.proofs.lemmas.Bool.{or_parts, cond-false}
 use Rattle.std.proofs.lemmas.Bool.Decides.{nat_tests}
-use Rattle.calculus.specs.Names.{raise, lower, exchange, send}
-use Rattle.terms.specs.declared.names.Renaming.{Renaming}
-use Rattle.terms.specs.declared.names.Renaming.TheVariants.{Raise, Lower, Exchange, Send}
 use Rattle.terms.specs.declared.names.Sought.TheVariants.{Pointer}
-use Rattle.terms.specs.Pointers.{function_of, settled, test_of, any_of}
-
--- bound pointers stay
-pub bound_stays : (r : Renaming) (d p : ℕ) → p < d → p ≡ function_of r d p
-unfolding function_of raise lower exchange send
-bound_stays Raise d p h = grind (arith, nat_tests)
-bound_stays Lower d p h = grind (arith, nat_tests)
-bound_stays Exchange d p h = grind (arith, nat_tests)
-bound_stays (Send os) d p h = grind (arith, nat_tests)
-
-pub raise_free : (d p : ℕ) → d ≤ p → p + 1 ≡ raise d p
-unfolding raise
-raise_free d p h = grind (arith, nat_tests)
-
-pub lower_free : (d p : ℕ) → d ≤ p → p - 1 ≡ lower d p
-unfolding lower
-lower_free d p h = grind (arith, nat_tests)
-
-pub exchange_first : (d p : ℕ) → p ≡ d → d + 1 ≡ exchange d p
-unfolding exchange
-exchange_first d p h = grind (arith, nat_tests)
-
-pub exchange_second : (d p : ℕ) → p ≡ d + 1 → d ≡ exchange d p
-unfolding exchange
-exchange_second d p h = grind (arith, nat_tests)
-
-pub exchange_other : (d p : ℕ) → (p ≡ d → ⊥) → (p ≡ d + 1 → ⊥) → p ≡ exchange d p
-unfolding exchange
-exchange_other d p h k = grind (arith, nat_tests)
-
-pub send_object : (os : List ℕ) (d p : ℕ) → d ≤ p → p - d < length os → get_or os (p - d) 0 + d ≡ send os d p
-unfolding send
-send_object os d p h k = grind (arith, nat_tests)
-
-pub send_past : (os : List ℕ) (d p : ℕ) → d ≤ p → length os ≤ p - d → p - length os ≡ send os d p
-unfolding send
-send_past os d p h k = grind (arith, nat_tests)
+use Rattle.terms.specs.Pointers.{settled, test_of, any_of}
 
 -- the tests that walks make
 pub pointer_met : (top d p : ℕ) → d ≤ p → eqb (p - d) top ≡ test_of (Pointer top) d p

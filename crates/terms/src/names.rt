@@ -1,12 +1,11 @@
 // Pointers are tested and renamed.
 ghost use Rattle.std.specs.Prelude.{◌≡◌, ◌<◌, ◌≤◌, map};
 ghost use Rattle.calculus.specs.Names.{exchange, send};
-ghost use Rattle.terms.specs.declared.names.Renaming.TheVariants.{Raise, Lower, Exchange};
 ghost use Rattle.terms.specs.declared.names.Sought.TheVariants.{Pointer};
 ghost use Rattle.terms.specs.Pointers.{function_of, settled, test_of, any_of};
 
 // What is done to every pointer of a term.
-#[derive(Clone, Copy)]
+#[derive(Clone, Copy, PartialEq, Eq, Debug)]
 pub enum Renaming<'a> {
     // free pointers rise by 1
     Raise,
@@ -27,37 +26,9 @@ pub(crate) enum Sought<'a> {
     Overflow(Renaming<'a>),
 }
 
-// Callers make one by these calls: the prover follows no variant without a reference that is made in place.
-impl<'a> Renaming<'a> {
-    // Free pointers rise by 1.
-    pub fn raise() -> Renaming<'a>
-        ensures { result ≡ Raise }
-    {
-        Self::Raise
-    }
-
-    // Free pointers fall by 1.
-    pub fn lower() -> Renaming<'a>
-        ensures { result ≡ Lower }
-    {
-        Self::Lower
-    }
-
-    // The first two free pointers trade places.
-    pub fn exchange() -> Renaming<'a>
-        ensures { result ≡ Exchange }
-    {
-        Self::Exchange
-    }
-
-    // The objects are sent into a continuation.
-    pub fn send(objects: &'a [u8]) -> Renaming<'a>
-        ensures { function_of result ≡ send objects.now }
-    {
-        Self::Send(objects)
-    }
-
+impl Renaming<'_> {
     // What becomes of a pointer at a depth.
+    #[tactic(auto, unfolding(crate::specs::Pointers::function_of, calculus::specs::Names::raise, calculus::specs::Names::lower, calculus::specs::Names::exchange, calculus::specs::Names::send))]
     fn apply(&self, depth: usize, pointer: u8) -> usize
         ensures { result ≡ function_of self.now depth pointer }
     {
@@ -74,15 +45,16 @@ impl<'a> Renaming<'a> {
     }
 
     // What becomes of a pointer, which stays where it would pass 255.
+    #[tactic(auto, unfolding(crate::specs::Pointers::settled))]
     fn settle(&self, depth: usize, pointer: u8) -> u8
         ensures { result ≡ settled (function_of self.now depth) pointer }
     {
-        let next = self.apply(depth, pointer);
-        if next > 255 { pointer } else { next as u8 }
+        u8::try_from(self.apply(depth, pointer)).unwrap_or(pointer)
     }
 }
 
 // The two pointers from the depth on trade places.
+#[tactic(auto, unfolding(calculus::specs::Names::exchange))]
 fn traded(depth: usize, pointer: usize) -> usize
     requires free { depth ≤ pointer }
     requires small { pointer < 256 }
@@ -98,6 +70,7 @@ fn traded(depth: usize, pointer: usize) -> usize
 }
 
 // An object is put for a pointer, or the pointer falls by the number of objects.
+#[tactic(auto, unfolding(calculus::specs::Names::send))]
 fn sent(objects: &[u8], depth: usize, pointer: usize) -> usize
     requires free { depth ≤ pointer }
     requires small { pointer < 256 }

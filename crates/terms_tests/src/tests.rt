@@ -233,37 +233,29 @@ fn pointers_rise_and_fall_by_one(rt: HostRuntime) {
     renames(
         &rt,
         &[2, 0, 1, 1, 0, 1, 1, 0],
-        Renaming::raise(),
+        Renaming::Raise,
         &[2, 1, 1, 1, 0, 1, 2, 0],
     );
     renames(
         &rt,
         &[2, 1, 1, 1, 0, 1, 2, 0],
-        Renaming::lower(),
+        Renaming::Lower,
         &[2, 0, 1, 1, 0, 1, 1, 0],
     );
-    renames(&rt, &[1, 254, 0, 0], Renaming::raise(), &[1, 255, 0, 0]);
-    overflows(&rt, &[1, 255, 0, 0], Renaming::raise());
-    overflows(&rt, &[1, 0, 1, 255, 0], Renaming::raise());
-    overflows(&rt, &[4, 0, 2, 255, 0, 0], Renaming::raise());
+    renames(&rt, &[1, 254, 0, 0], Renaming::Raise, &[1, 255, 0, 0]);
+    overflows(&rt, &[1, 255, 0, 0], Renaming::Raise);
+    overflows(&rt, &[1, 0, 1, 255, 0], Renaming::Raise);
+    overflows(&rt, &[4, 0, 2, 255, 0, 0], Renaming::Raise);
     renames(
         &rt,
         &[5, 0, 1, 254, 0, 0],
-        Renaming::raise(),
+        Renaming::Raise,
         &[5, 0, 1, 255, 0, 0],
     );
-    overflows(&rt, &[5, 0, 1, 255, 0, 0], Renaming::raise());
+    overflows(&rt, &[5, 0, 1, 255, 0, 0], Renaming::Raise);
     // 255 stays where 256 names are bound
-    assert!(rt;
-        !read(&below_inputs(8, 255))
-            .term
-            .overflows(Renaming::raise())
-    );
-    assert!(rt;
-        read(&below_inputs(7, 255))
-            .term
-            .overflows(Renaming::raise())
-    );
+    assert!(rt; !read(&below_inputs(8, 255)).term.overflows(Renaming::Raise));
+    assert!(rt; read(&below_inputs(7, 255)).term.overflows(Renaming::Raise));
 }
 
 #[test]
@@ -271,24 +263,24 @@ fn pointers_are_exchanged_under_binders(rt: HostRuntime) {
     renames(
         &rt,
         &[2, 0, 2, 1, 2, 3, 0, 3, 4, 0],
-        Renaming::exchange(),
+        Renaming::Exchange,
         &[2, 1, 2, 1, 3, 3, 0, 2, 4, 0],
     );
     // under 255 bound names pointer 255 would become 256, and 254 stays
     assert!(rt;
         read(&below_inputs(7, 255))
             .term
-            .overflows(Renaming::exchange())
+            .overflows(Renaming::Exchange)
     );
     assert!(rt;
         !read(&below_inputs(7, 254))
             .term
-            .overflows(Renaming::exchange())
+            .overflows(Renaming::Exchange)
     );
     assert!(rt;
         !read(&below_inputs(6, 255))
             .term
-            .overflows(Renaming::exchange())
+            .overflows(Renaming::Exchange)
     );
 }
 
@@ -297,37 +289,37 @@ fn objects_are_sent_to_their_depth(rt: HostRuntime) {
     renames(
         &rt,
         &[5, 7, 1, 1, 0, 0],
-        Renaming::send(&[1]),
+        Renaming::Send(&[1]),
         &[5, 7, 1, 2, 0, 0],
     );
     renames(
         &rt,
         &[1, 1, 2, 0, 2, 0],
-        Renaming::send(&[8, 9]),
+        Renaming::Send(&[8, 9]),
         &[1, 9, 2, 8, 0, 0],
     );
-    renames(&rt, &[1, 3, 0, 0], Renaming::send(&[]), &[1, 3, 0, 0]);
+    renames(&rt, &[1, 3, 0, 0], Renaming::Send(&[]), &[1, 3, 0, 0]);
     renames(
         &rt,
         &[1, 255, 0, 0],
-        Renaming::send(&[255]),
+        Renaming::Send(&[255]),
         &[1, 254, 0, 0],
     );
-    renames(&rt, &[1, 0, 0, 0], Renaming::send(&[255]), &[1, 255, 0, 0]);
+    renames(&rt, &[1, 0, 0, 0], Renaming::Send(&[255]), &[1, 255, 0, 0]);
     renames(
         &rt,
         &[5, 7, 1, 1, 0, 0],
-        Renaming::send(&[254]),
+        Renaming::Send(&[254]),
         &[5, 7, 1, 255, 0, 0],
     );
-    overflows(&rt, &[5, 7, 1, 1, 0, 0], Renaming::send(&[255]));
+    overflows(&rt, &[5, 7, 1, 1, 0, 0], Renaming::Send(&[255]));
 }
 
 #[test]
 fn a_buffer_must_be_long_enough(rt: HostRuntime) {
     let sample = read(&SAMPLE).term;
     let mut short = [OLD; 9];
-    let answer = sample.rename(Renaming::raise(), &mut short);
+    let answer = sample.rename(Renaming::Raise, &mut short);
     assert_eq!(rt;
         answer,
         Err(Fault {
@@ -337,7 +329,7 @@ fn a_buffer_must_be_long_enough(rt: HostRuntime) {
     );
     assert_eq!(rt; short[0], OLD);
     let mut out = [OLD; 10];
-    assert_eq!(rt; sample.rename(Renaming::raise(), &mut out), Ok(10));
+    assert_eq!(rt; sample.rename(Renaming::Raise, &mut out), Ok(10));
     assert!(rt; &out[0..10] == &[4, 1, 1, 1, 2, 0, 2, 1, 1, 0][0..10]);
 }
 
@@ -349,7 +341,7 @@ fn the_deepest_term_has_stack_enough(rt: HostRuntime) {
     let term = read(&bytes);
     assert_eq!(rt; term.outcome, Ok(()));
     let mut out = [OLD; LONGEST_TERM];
-    assert_eq!(rt; term.term.rename(Renaming::raise(), &mut out), Ok(4096));
+    assert_eq!(rt; term.term.rename(Renaming::Raise, &mut out), Ok(4096));
     assert!(rt; &out[0..4096] == &bytes[0..4096]);
     assert!(rt; !term.term.has_free(0));
     assert_eq!(rt; term.term.find(4095), found(4095, 4096, 0, false));
