@@ -1,6 +1,7 @@
 -- Pointers of a term: what tests and renamings make of them, node by node.
 use Rattle.std.proofs.Common.{◌≡◌, ℕ, suc, ◌+◌, Bool, true, false, not, ◌&&◌, ◌||◌, eqb, ltb, leb, List, [], ◌∷◌, ◌++◌, map, length, sym, refl, ap, ◌∙◌, ap₂, add-zero, add-one, arith}
 use Rattle.std.proofs.lemmas.List.{length-append, length-map, nil_from_length}
+use Rattle.std.proofs.Math.Bool.{not-not, or_assoc}
 use Rattle.std.proofs.lemmas.Bool.{and_parts}
 use Rattle.std.proofs.lemmas.Bool.Decides.{nat_tests}
 use Rattle.calculus.specs.Trees.{Process, terminated, output, input, choice, parallel, restriction, replication, write}
@@ -10,20 +11,19 @@ use Rattle.terms.specs.declared.head.Head.TheVariants.{Terminated, Output, Input
 use Rattle.terms.specs.declared.head.Parts.{Parts}
 use Rattle.terms.specs.declared.head.Parts.TheVariants.{Zero, One, Two}
 use Rattle.terms.specs.declared.names.Renaming.{Renaming}
-use Rattle.terms.specs.declared.names.Sought.TheVariants.{Pointer, Overflow}
 use Rattle.terms.specs.Fitting.{counts_fit, are_bytes}
 use Rattle.terms.specs.Heads.{built, size_of, objects_of, binds_of, parts_of, subject_in, renamed_head}
-use Rattle.terms.specs.Pointers.{function_of, any_of, any_pointer, test_of}
+use Rattle.terms.specs.Pointers.{function_of, any_of, any_pointer, is_counted, passes_255}
 use Rattle.terms.proofs.Numbers.{bytes_append}
 
 -- A pointer that the top counts so is free where some pointer is that one at its depth.
-among_any : (top d : ℕ) (os : List ℕ) → among (top + d) os ≡ any_of (test_of (Pointer top) d) os
-unfolding among any_of test_of
+among_any : (top d : ℕ) (os : List ℕ) → among (top + d) os ≡ any_of (is_counted top d) os
+unfolding among any_of is_counted
 among_any top d [] = refl
 among_any top d (o ∷ os) = ap (◌||◌ (eqb o (top + d))) (among_any top d os)
 
-pub free_at : (top d : ℕ) (t : Process) → free (top + d) t ≡ any_pointer (test_of (Pointer top)) d t
-unfolding free any_pointer test_of
+pub free_at : (top d : ℕ) (t : Process) → free (top + d) t ≡ any_pointer (is_counted top) d t
+unfolding free any_pointer is_counted
 free_at top d terminated = refl
 free_at top d (output s os p) = ap (◌||◌ (eqb s (top + d))) (ap₂ ◌||◌ (among_any top d os) (free_at top d p))
 free_at top d (input s n p) =
@@ -36,7 +36,7 @@ free_at top d (restriction s p) =
     ap (λ (k : ℕ). free k p) sum ∙ free_at top (suc d) p
 free_at top d (replication p) = free_at top d p
 
-pub free_any : (top : ℕ) (t : Process) → free top t ≡ any_pointer (test_of (Pointer top)) 0 t
+pub free_any : (top : ℕ) (t : Process) → free top t ≡ any_pointer (is_counted top) 0 t
 free_any top t = ap (λ (k : ℕ). free k t) (sym (add-zero top)) ∙ free_at top 0 t
 
 -- A renaming keeps the length and the counts.
@@ -109,9 +109,9 @@ bytes_renamed f d (restriction s p) e =
     ap₂ ◌&&◌ sort (bytes_renamed f (suc d) p inner)
 bytes_renamed f d (replication p) e = bytes_renamed f d p e
 
-pub overflow_any : (r : Renaming) (t : Process) → are_bytes (write t) ≡ true → are_bytes (write (rename (function_of r) 0 t)) ≡ not (any_pointer (test_of (Overflow r)) 0 t)
-unfolding test_of
-overflow_any r t e = bytes_renamed (function_of r) 0 t e
+pub overflow_any : (r : Renaming) (t : Process) → are_bytes (write t) ≡ true → any_pointer (passes_255 r) 0 t ≡ not (are_bytes (write (rename (function_of r) 0 t)))
+unfolding passes_255
+overflow_any r t e = sym (ap not (bytes_renamed (function_of r) 0 t e) ∙ not-not (any_pointer (passes_255 r) 0 t))
 
 -- how many parts is told apart
 pub zero_one : {A : Type 0} → ◌≡◌ {A = Parts} Zero One → A
@@ -149,18 +149,18 @@ any_zero test d (Restriction s) os p q z e = zero_one (sym z)
 any_zero test d Replication os p q z e = zero_one (sym z)
 
 pub any_one : (test : ℕ → ℕ → Bool) (d : ℕ) (h : Head) (os : List ℕ) (p q : Process) → parts_of h ≡ One → length os ≡ objects_of h →
-    any_pointer test d (built h os p q) ≡ (any_of (test d) (subject_in h) || (any_of (test d) os || any_pointer test (d + binds_of h) p))
+    any_pointer test d (built h os p q) ≡ ((any_of (test d) (subject_in h) || any_of (test d) os) || any_pointer test (d + binds_of h) p)
 unfolding any_pointer built subject_in any_of
 any_one test d Terminated os p q z e = zero_one z
-any_one test d (Output s n) os p q z e = rw (any_alone (test d) s, add-zero d) refl
-any_one test d (Input s n) os p q z e = rw (any_alone (test d) s, any_none (test d) os e) refl
+any_one test d (Output s n) os p q z e = rw (any_alone (test d) s, or_assoc, add-zero d) refl
+any_one test d (Input s n) os p q z e = rw (any_alone (test d) s, or_assoc, any_none (test d) os e) refl
 any_one test d Choice os p q z e = one_two (sym z)
 any_one test d Parallel os p q z e = one_two (sym z)
 any_one test d (Restriction s) os p q z e = rw (any_none (test d) os e, add-one d) refl
 any_one test d Replication os p q z e = rw (any_none (test d) os e, add-zero d) refl
 
 pub any_two : (test : ℕ → ℕ → Bool) (d : ℕ) (h : Head) (os : List ℕ) (p q : Process) → parts_of h ≡ Two → length os ≡ objects_of h →
-    any_pointer test d (built h os p q) ≡ (any_of (test d) (subject_in h) || (any_of (test d) os || (any_pointer test (d + binds_of h) p || any_pointer test (d + binds_of h) q)))
+    any_pointer test d (built h os p q) ≡ ((any_of (test d) (subject_in h) || any_of (test d) os) || (any_pointer test (d + binds_of h) p || any_pointer test (d + binds_of h) q))
 unfolding any_pointer built subject_in any_of
 any_two test d Terminated os p q z e = zero_two z
 any_two test d (Output s n) os p q z e = one_two z

@@ -13,10 +13,9 @@ use Rattle.terms.specs.declared.head.Head.TheVariants.{Terminated, Output, Input
 use Rattle.terms.specs.declared.head.Parts.{Parts}
 use Rattle.terms.specs.declared.head.Parts.TheVariants.{Zero, One, Two}
 use Rattle.terms.specs.declared.names.Renaming.{Renaming}
-use Rattle.terms.specs.declared.names.Sought.TheVariants.{Overflow}
 use Rattle.terms.specs.Fitting.{are_bytes}
 use Rattle.terms.specs.Heads.{built, size_of, subjects_of, objects_of, binds_of, parts_of, head_of, objects_in, subject_in, front, renamed_head, head_renamed}
-use Rattle.terms.specs.Pointers.{function_of, settled, renamed, any_of, any_pointer, test_of}
+use Rattle.terms.specs.Pointers.{function_of, settled, renamed, any_of, any_pointer, passes_255}
 use Rattle.terms.specs.Reading.{whole, scan, is_term, tree_of}
 use Rattle.terms.proofs.Pointed.{any_alone, any_zero, any_one, any_two, rename-built, parts_renamed, objects_renamed, size_renamed, length-renamed, overflow_any}
 use Rattle.terms.proofs.Fitted.{fits_renamed}
@@ -85,19 +84,19 @@ unfolding settled
 settles f s e = cond-false (ltb 255 (f s)) s (f s) e
 
 module _ (r : Renaming) (d : ℕ) where
-  head_clear : (h : Head) → any_of (test_of (Overflow r) d) (subject_in h) ≡ false → renamed_head (settled (function_of r d)) h ≡ renamed_head (function_of r d) h
-  unfolding renamed_head subject_in test_of
+  head_clear : (h : Head) → any_of (passes_255 r d) (subject_in h) ≡ false → renamed_head (settled (function_of r d)) h ≡ renamed_head (function_of r d) h
+  unfolding renamed_head subject_in passes_255
   head_clear Terminated e = refl
-  head_clear (Output s n) e = ap (λ (k : ℕ). Output k n) (settles (function_of r d) s (sym (any_alone (test_of (Overflow r) d) s) ∙ e))
-  head_clear (Input s n) e = ap (λ (k : ℕ). Input k n) (settles (function_of r d) s (sym (any_alone (test_of (Overflow r) d) s) ∙ e))
+  head_clear (Output s n) e = ap (λ (k : ℕ). Output k n) (settles (function_of r d) s (sym (any_alone (passes_255 r d) s) ∙ e))
+  head_clear (Input s n) e = ap (λ (k : ℕ). Input k n) (settles (function_of r d) s (sym (any_alone (passes_255 r d) s) ∙ e))
   head_clear Choice e = refl
   head_clear Parallel e = refl
   head_clear (Restriction s) e = refl
   head_clear Replication e = refl
 
-  front_clear : (h : Head) (os : List ℕ) → any_of (test_of (Overflow r) d) (subject_in h) ≡ false → any_of (test_of (Overflow r) d) os ≡ false →
+  front_clear : (h : Head) (os : List ℕ) → any_of (passes_255 r d) (subject_in h) ≡ false → any_of (passes_255 r d) os ≡ false →
       front (renamed_head (settled (function_of r d)) h) (map (settled (function_of r d)) os) ≡ front (renamed_head (function_of r d) h) (map (function_of r d) os)
-  unfolding test_of
+  unfolding passes_255
   front_clear h os subject objects = ap₂ front (head_clear h subject) (all_settled (function_of r d) os objects)
 
 -- the parts of a node, none of whose pointers passes a test
@@ -113,17 +112,17 @@ module _ (test : ℕ → ℕ → Bool) (d : ℕ) (h : Head) (os : List ℕ) (t u
       let (subject, objects) = or_parts (any_of (test d) (subject_in h)) (any_of (test d) os) (sym (any_zero test d h os t u z count) ∙ clear) in
       (subject, objects, tt)
   node_clear One z =
-      let (subject, more) = or_parts (any_of (test d) (subject_in h)) (any_of (test d) os || any_pointer test (d + binds_of h) t) (sym (any_one test d h os t u z count) ∙ clear) in
-      let (objects, below) = or_parts (any_of (test d) os) (any_pointer test (d + binds_of h) t) more in
+      let (own, below) = or_parts (any_of (test d) (subject_in h) || any_of (test d) os) (any_pointer test (d + binds_of h) t) (sym (any_one test d h os t u z count) ∙ clear) in
+      let (subject, objects) = or_parts (any_of (test d) (subject_in h)) (any_of (test d) os) own in
       (subject, objects, below)
   node_clear Two z =
-      let (subject, more) = or_parts (any_of (test d) (subject_in h)) (any_of (test d) os || (any_pointer test (d + binds_of h) t || any_pointer test (d + binds_of h) u)) (sym (any_two test d h os t u z count) ∙ clear) in
-      let (objects, below) = or_parts (any_of (test d) os) (any_pointer test (d + binds_of h) t || any_pointer test (d + binds_of h) u) more in
+      let (own, below) = or_parts (any_of (test d) (subject_in h) || any_of (test d) os) (any_pointer test (d + binds_of h) t || any_pointer test (d + binds_of h) u) (sym (any_two test d h os t u z count) ∙ clear) in
+      let (subject, objects) = or_parts (any_of (test d) (subject_in h)) (any_of (test d) os) own in
       (subject, objects, or_parts (any_pointer test (d + binds_of h) t) (any_pointer test (d + binds_of h) u) below)
 
 -- a node renamed, as it is written
 node_written : (r : Renaming) (d : ℕ) (h : Head) (os : List ℕ) (t u : Process) → length os ≡ objects_of h → (parts : Parts) → parts_of h ≡ parts →
-    any_of (test_of (Overflow r) d) (subject_in h) ≡ false → any_of (test_of (Overflow r) d) os ≡ false →
+    any_of (passes_255 r d) (subject_in h) ≡ false → any_of (passes_255 r d) os ≡ false →
     write (rename (function_of r) d (built h os t u))
     ≡ front (renamed_head (settled (function_of r d)) h) (map (settled (function_of r d)) os) ++ parts_written parts (rename (function_of r) (d + binds_of h) t) (rename (function_of r) (d + binds_of h) u)
 node_written r d h os t u count parts z subject objects =
@@ -136,7 +135,7 @@ node_written r d h os t u count parts z subject objects =
 -- what a walk does to the bytes that it is given
 abbrev pub Renames : Renaming → ℕ → List ℕ → ℕ → List ℕ → Type 0
 Renames r d ns n last =
-    (p : Process) (q : List ℕ) → scan ns ≡ whole p q → any_pointer (test_of (Overflow r)) d p ≡ false →
+    (p : Process) (q : List ℕ) → scan ns ≡ whole p q → any_pointer (passes_255 r) d p ≡ false →
     (n ≡ length (write p)) × (last ≡ write (rename (function_of r) d p) ++ q)
 
 -- no head, so nothing to rename
@@ -174,7 +173,7 @@ module _ (r : Renaming) (d : ℕ) (ns : List ℕ) (h : Head) (is : Ok h ≡ head
   pub renames_zero : Zero ≡ parts_of h → Renames r d ns size bs
   renames_zero z p q e clear =
       let (node, left) = parts_zero ns q h p is z e in
-      let (subject, objects, _) = node_clear (test_of (Overflow r)) d h (objects_in h ns) terminated terminated count (ap (any_pointer (test_of (Overflow r)) d) (sym node) ∙ clear) Zero (sym z) in
+      let (subject, objects, _) = node_clear (passes_255 r) d h (objects_in h ns) terminated terminated count (ap (any_pointer (passes_255 r) d) (sym node) ∙ clear) Zero (sym z) in
       let long : length (write p) ≡ size_of h + 0 = ap (λ (t : Process). length (write t)) node ∙ length-built h (objects_in h ns) terminated terminated Zero (sym z) count in
       let written : write (rename (function_of r) d p) ≡ start ++ [] = ap (λ (t : Process). write (rename (function_of r) d t)) node ∙ node_written r d h (objects_in h ns) terminated terminated count Zero (sym z) subject objects in
       (omega arith, bs_is ∙ ap₂ ◌++◌ (sym (written ∙ append-nil start)) left)
@@ -183,8 +182,8 @@ module _ (r : Renaming) (d : ℕ) (ns : List ℕ) (h : Head) (is : Ok h ≡ head
       Renames r d ns (size + n) (put_mid size (length bs - size) bs last)
   renames_one z n last call p q e clear =
       let (t, scanned, node) = parts_one ns q h p is z e in
-      let (subject, objects, below) = node_clear (test_of (Overflow r)) d h (objects_in h ns) t terminated count (ap (any_pointer (test_of (Overflow r)) d) (sym node) ∙ clear) One (sym z) in
-      let (size_first, last_is) = call t q (ap scan part_is ∙ scanned) (ap (λ (k : ℕ). any_pointer (test_of (Overflow r)) (d + k) t) binds_is ∙ below) in
+      let (subject, objects, below) = node_clear (passes_255 r) d h (objects_in h ns) t terminated count (ap (any_pointer (passes_255 r) d) (sym node) ∙ clear) One (sym z) in
+      let (size_first, last_is) = call t q (ap scan part_is ∙ scanned) (ap (λ (k : ℕ). any_pointer (passes_255 r) (d + k) t) binds_is ∙ below) in
       let long : length (write p) ≡ size_of h + length (write t) = ap (λ (x : Process). length (write x)) node ∙ length-built h (objects_in h ns) t terminated One (sym z) count in
       let written : write (rename (function_of r) d p) ≡ start ++ write (rename (function_of r) (d + binds) t)
       = ap (λ (x : Process). write (rename (function_of r) d x)) node ∙ node_written r d h (objects_in h ns) t terminated count One (sym z) subject objects
@@ -199,14 +198,14 @@ module _ (r : Renaming) (d : ℕ) (ns : List ℕ) (h : Head) (is : Ok h ≡ head
       Renames r d ns (size + n + m) (put_mid (size + n) (length cs - (size + n)) cs final)
   renames_two z n last call cs cs_is m final again p q e clear =
       let (t, u, rest, scanned, second, node) = parts_two ns q h p is z e in
-      let (subject, objects, below) = node_clear (test_of (Overflow r)) d h (objects_in h ns) t u count (ap (any_pointer (test_of (Overflow r)) d) (sym node) ∙ clear) Two (sym z) in
-      let (size_first, last_is) = call t rest (ap scan part_is ∙ scanned) (ap (λ (k : ℕ). any_pointer (test_of (Overflow r)) (d + k) t) binds_is ∙ below.0) in
+      let (subject, objects, below) = node_clear (passes_255 r) d h (objects_in h ns) t u count (ap (any_pointer (passes_255 r) d) (sym node) ∙ clear) Two (sym z) in
+      let (size_first, last_is) = call t rest (ap scan part_is ∙ scanned) (ap (λ (k : ℕ). any_pointer (passes_255 r) (d + k) t) binds_is ∙ below.0) in
       let one : List ℕ = write (rename (function_of r) (d + binds) t) in
       let two : List ℕ = write (rename (function_of r) (d + binds) u) in
       let so_far : cs ≡ (start ++ one) ++ rest = cs_is ∙ put_end size bs last ∙ ap₂ ◌++◌ take_start last_is ∙ sym (append_assoc start one rest) in
       let past : length (start ++ one) ≡ size + n = omega (arith, length-append start one, length_start, length-renamed (function_of r) (d + binds) t) in
       let next : take (length cs - (size + n)) (drop (size + n) cs) ≡ rest = take_rest cs (size + n) ∙ ap (drop (size + n)) so_far ∙ drop_at (start ++ one) rest (size + n) past in
-      let (size_second, final_is) = again u q (ap scan next ∙ second) (ap (λ (k : ℕ). any_pointer (test_of (Overflow r)) (d + k) u) binds_is ∙ below.1) in
+      let (size_second, final_is) = again u q (ap scan next ∙ second) (ap (λ (k : ℕ). any_pointer (passes_255 r) (d + k) u) binds_is ∙ below.1) in
       let long : length (write p) ≡ size_of h + length (write t ++ write u) = ap (λ (x : Process). length (write x)) node ∙ length-built h (objects_in h ns) t u Two (sym z) count in
       let written : write (rename (function_of r) d p) ≡ start ++ (one ++ two)
       = ap (λ (x : Process). write (rename (function_of r) d x)) node ∙ node_written r d h (objects_in h ns) t u count Two (sym z) subject objects
@@ -266,7 +265,7 @@ module _ (ns : List ℕ) (term : is_term ns ≡ true) where
       let long : length copied ≡ size = ap length copied_is ∙ sym size_is in
       let there : take size (copied ++ drop size out) ≡ ns = take_at copied (drop size out) size long ∙ copied_is in
       let bytes : are_bytes (write (rename (function_of r) 0 (tree_of ns))) ≡ true = not-false (are_bytes (write (rename (function_of r) 0 (tree_of ns)))) fine in
-      let clear : any_pointer (test_of (Overflow r)) 0 (tree_of ns) ≡ false = not-true (any_pointer (test_of (Overflow r)) 0 (tree_of ns)) (sym bytes ∙ overflow_any r (tree_of ns) (term_bytes ns term)) in
+      let clear : any_pointer (passes_255 r) 0 (tree_of ns) ≡ false = overflow_any r (tree_of ns) (term_bytes ns term) ∙ ap not bytes in
       let (_, last_is) = call (tree_of ns) [] (ap scan there ∙ term_scan ns term) clear in
       let wide : size ≡ length (write (rename (function_of r) 0 (tree_of ns))) = omega (arith, length-renamed (function_of r) 0 (tree_of ns), term_length ns term) in
       ap₂ ◌++◌ (last_is ∙ append-nil (write (rename (function_of r) 0 (tree_of ns)))) (drop_at copied (drop size out) size long ∙ ap (λ (k : ℕ). drop k out) wide)

@@ -1,5 +1,5 @@
 -- What a walk over a term's pointers does and asks.
-use Rattle.std.specs.Prelude.{ℕ, suc, ◌+◌, Bool, false, cond, ◌||◌, List, [], ◌∷◌, length, Some, None, Ok, Err, Option, Result, ◌==◌, nat_lt}
+use Rattle.std.specs.Prelude.{ℕ, suc, ◌+◌, ◌^◌, ◌<◌, ◌≡◌, Bool, false, cond, ◌||◌, List, [], ◌∷◌, length, Some, None, Ok, Err, Option, Result, ◌==◌, nat_lt}
 use Rattle.calculus.specs.Trees.{Process, terminated, output, input, choice, parallel, restriction, replication, write}
 use Rattle.calculus.specs.Names.{rename, raise, lower, exchange, send}
 use Rattle.refusal.specs.declared.Fault.{Fault}
@@ -7,8 +7,6 @@ use Rattle.refusal.specs.declared.Refusal.TheVariants.{PointerOverflow}
 use Rattle.refusal.specs.Writes.{fault}
 use Rattle.terms.specs.declared.names.Renaming.{Renaming}
 use Rattle.terms.specs.declared.names.Renaming.TheVariants.{Raise, Lower, Exchange, Send}
-use Rattle.terms.specs.declared.names.Sought.{Sought}
-use Rattle.terms.specs.declared.names.Sought.TheVariants.{Pointer, Overflow}
 use Rattle.terms.specs.Fitting.{are_bytes}
 use Rattle.terms.specs.Reading.{Scanned, whole, stuck}
 
@@ -43,9 +41,15 @@ any_pointer test depth (restriction sort p) = any_pointer test (suc depth) p
 any_pointer test depth (replication p) = any_pointer test depth p
 
 -- the tests that walks make: the pointer is that one of the top, or it would pass 255
-unfoldable pub test_of : Sought → ℕ → ℕ → Bool
-test_of (Pointer top) depth pointer = pointer == top + depth
-test_of (Overflow renaming) depth pointer = nat_lt 255 (function_of renaming depth pointer)
+unfoldable pub is_counted : ℕ → ℕ → ℕ → Bool
+is_counted top depth pointer = pointer == top + depth
+
+unfoldable pub passes_255 : Renaming → ℕ → ℕ → Bool
+passes_255 renaming depth pointer = nat_lt 255 (function_of renaming depth pointer)
+
+-- a closure makes a test of a depth and a pointer
+abbrev pub Tests : (ℕ → ℕ → Bool → Type 0) → (ℕ → ℕ → Bool) → Type 0
+Tests post test = (depth pointer : ℕ) (answer : Bool) → depth < 2 ^ 64 → pointer < 256 → post depth pointer answer → answer ≡ test depth pointer
 
 -- the length of a process none of whose pointers passes a test
 unfoldable pub clear_of : (ℕ → ℕ → Bool) → ℕ → Scanned → Option ℕ

@@ -1,12 +1,10 @@
 // Pointers are tested and renamed.
-ghost use Rattle.std.specs.Prelude.{◌≡◌, ◌<◌, ◌≤◌, map};
+ghost use Rattle.std.specs.Prelude.{◌≡◌, ℕ, ◌<◌, ◌≤◌, Bool, map};
 ghost use Rattle.calculus.specs.Names.{exchange, send};
-ghost use Rattle.terms.specs.declared.names.Renaming.TheVariants.{Raise, Lower, Exchange};
-ghost use Rattle.terms.specs.declared.names.Sought.TheVariants.{Pointer};
-ghost use Rattle.terms.specs.Pointers.{function_of, settled, test_of, any_of};
+ghost use Rattle.terms.specs.Pointers.{function_of, settled, is_counted, any_of, Tests};
 
 // What is done to every pointer of a term.
-#[derive(Clone, Copy)]
+#[derive(Clone, Copy, PartialEq, Eq, Debug)]
 pub enum Renaming<'a> {
     // free pointers rise by 1
     Raise,
@@ -18,47 +16,10 @@ pub enum Renaming<'a> {
     Send(&'a [u8]),
 }
 
-// Which pointers a walk looks for.
-#[derive(Clone, Copy)]
-pub(crate) enum Sought<'a> {
-    // the one that the top of the term counts so
-    Pointer(u8),
-    // those that would pass 255
-    Overflow(Renaming<'a>),
-}
-
-// Callers make one by these calls: the prover follows no variant without a reference that is made in place.
-impl<'a> Renaming<'a> {
-    // Free pointers rise by 1.
-    pub fn raise() -> Renaming<'a>
-        ensures { result ≡ Raise }
-    {
-        Self::Raise
-    }
-
-    // Free pointers fall by 1.
-    pub fn lower() -> Renaming<'a>
-        ensures { result ≡ Lower }
-    {
-        Self::Lower
-    }
-
-    // The first two free pointers trade places.
-    pub fn exchange() -> Renaming<'a>
-        ensures { result ≡ Exchange }
-    {
-        Self::Exchange
-    }
-
-    // The objects are sent into a continuation.
-    pub fn send(objects: &'a [u8]) -> Renaming<'a>
-        ensures { function_of result ≡ send objects.now }
-    {
-        Self::Send(objects)
-    }
-
+impl Renaming<'_> {
     // What becomes of a pointer at a depth.
-    fn apply(&self, depth: usize, pointer: u8) -> usize
+    #[tactic(auto, unfolding(crate::specs::Pointers::function_of, calculus::specs::Names::raise, calculus::specs::Names::lower, calculus::specs::Names::exchange, calculus::specs::Names::send))]
+    pub(crate) fn apply(&self, depth: usize, pointer: u8) -> usize
         ensures { result ≡ function_of self.now depth pointer }
     {
         let pointer = usize::from(pointer);
@@ -74,15 +35,16 @@ impl<'a> Renaming<'a> {
     }
 
     // What becomes of a pointer, which stays where it would pass 255.
+    #[tactic(auto, unfolding(crate::specs::Pointers::settled))]
     fn settle(&self, depth: usize, pointer: u8) -> u8
         ensures { result ≡ settled (function_of self.now depth) pointer }
     {
-        let next = self.apply(depth, pointer);
-        if next > 255 { pointer } else { next as u8 }
+        u8::try_from(self.apply(depth, pointer)).unwrap_or(pointer)
     }
 }
 
 // The two pointers from the depth on trade places.
+#[tactic(auto, unfolding(calculus::specs::Names::exchange))]
 fn traded(depth: usize, pointer: usize) -> usize
     requires free { depth ≤ pointer }
     requires small { pointer < 256 }
@@ -98,6 +60,7 @@ fn traded(depth: usize, pointer: usize) -> usize
 }
 
 // An object is put for a pointer, or the pointer falls by the number of objects.
+#[tactic(auto, unfolding(calculus::specs::Names::send))]
 fn sent(objects: &[u8], depth: usize, pointer: usize) -> usize
     requires free { depth ≤ pointer }
     requires small { pointer < 256 }
@@ -111,38 +74,20 @@ fn sent(objects: &[u8], depth: usize, pointer: usize) -> usize
     }
 }
 
-impl<'a> Sought<'a> {
-    // The one that the top of the term counts so.
-    pub(crate) fn pointer(top: u8) -> Sought<'a>
-        ensures { result ≡ Pointer top }
-    {
-        Sought::Pointer(top)
-    }
+// Whether a pointer at a depth is the one that the top of the term counts so.
+#[tactic(auto, unfolding(crate::specs::Pointers::is_counted))]
+pub(crate) fn is_counted(top: u8, depth: usize, pointer: u8) -> bool
+    ensures { result ≡ is_counted top depth pointer }
+{
+    usize::from(pointer).checked_sub(depth) == Some(usize::from(top))
+}
 
-    // Whether a pointer at a depth is one of those.
-    fn meets(&self, depth: usize, pointer: u8) -> bool
-        ensures { result ≡ test_of self.now depth pointer }
-    {
-        match self {
-            Sought::Pointer(top) => {
-                let pointer = usize::from(pointer);
-                pointer >= depth && pointer - depth == usize::from(*top)
-            }
-            Sought::Overflow(renaming) => renaming.apply(depth, pointer) > 255,
-        }
-    }
-
-    // Whether some pointer of a row, all at one depth, is.
-    pub(crate) fn meets_any(&self, depth: usize, pointers: &[u8]) -> bool
-        ensures { result ≡ any_of (test_of self.now depth) pointers.now }
-    {
-        for pointer in pointers {
-            if self.meets(depth, *pointer) {
-                return true;
-            }
-        }
-        false
-    }
+// Whether some pointer of a row, all at one depth, passes a test.
+pub(crate) fn any_passes<F: Fn(usize, u8) -> bool>(test: &F, depth: usize, pointers: &[u8]) -> bool
+    requires { F.IsAlwaysCallable test.now }
+    ensures { (known : ℕ → ℕ → Bool) → Tests (F.post test.now) known → result ≡ any_of (known depth) pointers.now }
+{
+    pointers.iter().any(|pointer| test(depth, *pointer))
 }
 
 // Renames a row of pointers, all at one depth; one that would pass 255 stays.

@@ -1,51 +1,49 @@
 // Walks over the pointers of a term: is one there, and what becomes of all.
-ghost use Rattle.std.specs.Prelude.{◌≡◌, ℕ, ◌+◌, ◌*◌, ◌^◌, ◌<◌, ◌≤◌, true, false, not, ◌||◌, List, ◌++◌, length, take, IfSome, IfOk, Ok};
+ghost use Rattle.std.specs.Prelude.{◌≡◌, ℕ, ◌+◌, ◌*◌, ◌^◌, ◌<◌, ◌≤◌, Bool, true, false, not, ◌||◌, List, ◌++◌, length, take, IfSome, IfOk, Ok};
 ghost use Rattle.calculus.specs.Trees.{Process, write};
 ghost use Rattle.calculus.specs.Names.{rename, free};
 ghost use Rattle.refusal.specs.Writes.{answered, left, within};
 ghost use Rattle.terms.specs.Fitting.{are_bytes};
 ghost use Rattle.terms.specs.Heads.{head_of, subject_in, objects_in, head_renamed};
-ghost use Rattle.terms.specs.Pointers.{function_of, settled, renamed, any_of, any_pointer, test_of, clear_of};
+ghost use Rattle.terms.specs.Pointers.{function_of, settled, renamed, any_of, any_pointer, passes_255, clear_of, Tests};
 ghost use Rattle.terms.specs.Reading.{scan, whole, is_term};
 ghost use Rattle.terms.specs.Views.{bytes_of, tree};
-ghost use Rattle.terms.specs.declared.names.Sought.TheVariants.{Overflow};
 
 use crate::head::{Head, Parts};
-use crate::names::{Renaming, Sought, rename_row};
+use crate::names::{Renaming, any_passes, is_counted, rename_row};
+use crate::stretch::Stretch;
 use crate::term::Term;
 use refusal::{Fault, Refusal};
 
-// Whether a pointer of the head at the start, its subject or an object, is sought.
-fn head_meets(sought: &Sought<'_>, depth: usize, head: Head, bytes: &[u8]) -> bool
-    requires { head_of bytes.now ≡ Ok head }
-    ensures { result ≡ (any_of (test_of sought.now depth) (subject_in head) || any_of (test_of sought.now depth) (objects_in head bytes.now)) }
+// Whether a pointer of the head at the start, its subject or an object, passes a test.
+fn head_passes<F: Fn(usize, u8) -> bool>(head: Head, stretch: &Stretch<'_>, test: &F) -> bool
+    requires head { head_of stretch.now.bytes.now ≡ Ok head }
+    requires callable { F.IsAlwaysCallable test.now }
+    ensures { (known : ℕ → ℕ → Bool) → Tests (F.post test.now) known → result ≡ (any_of (known stretch.now.bound) (subject_in head) || any_of (known stretch.now.bound) (objects_in head stretch.now.bytes.now)) }
 {
     let size = head.size();
-    sought.meets_any(depth, &bytes[1..1 + head.subjects()])
-        || sought.meets_any(depth, &bytes[size - head.objects()..size])
+    let subject = &stretch.bytes[1..1 + head.subjects()];
+    let objects = &stretch.bytes[size - head.objects()..size];
+    any_passes(test, stretch.bound, subject) || any_passes(test, stretch.bound, objects)
 }
 
-// How many bytes the process at the start takes, if none of its pointers is sought.
-fn clear(bytes: &[u8], depth: usize, sought: &Sought<'_>) -> Option<usize>
-    requires { depth + 8 * length bytes.now < 2 ^ 32 }
-    ensures answer { result ≡ clear_of (test_of sought.now) depth (scan bytes.now) }
-    ensures room { IfSome result (λ size. size ≤ length bytes.now) }
+// How many bytes the process at the start takes, if none of its pointers, each at its depth, passes a test.
+fn clear<F: Fn(usize, u8) -> bool>(stretch: &Stretch<'_>, test: &F) -> Option<usize>
+    requires { F.IsAlwaysCallable test.now }
+    ensures answer { (known : ℕ → ℕ → Bool) → Tests (F.post test.now) known → result ≡ clear_of known stretch.now.bound (scan stretch.now.bytes.now) }
+    ensures room { IfSome result (λ size. size ≤ length stretch.now.bytes.now) }
 {
-    let Ok(head) = Head::read(bytes) else {
-        return None;
-    };
-    if head_meets(sought, depth, head, bytes) {
+    let (head, rest) = stretch.split_head()?;
+    if head_passes(head, stretch, test) {
         return None;
     }
     let size = head.size();
-    let below = depth + head.binds();
-    let rest = &bytes[size..];
     match head.parts() {
         Parts::Zero => Some(size),
-        Parts::One => Some(size + clear(rest, below, sought)?),
+        Parts::One => Some(size + clear(&rest, test)?),
         Parts::Two => {
-            let first = clear(rest, below, sought)?;
-            let second = clear(&rest[first..], below, sought)?;
+            let first = clear(&rest, test)?;
+            let second = clear(&rest.skip(first), test)?;
             Some(size + first + second)
         }
     }
@@ -65,7 +63,7 @@ fn rename_head(renaming: &Renaming<'_>, depth: usize, head: Head, bytes: &mut [u
 fn rename_in_place(renaming: &Renaming<'_>, depth: usize, bytes: &mut [u8]) -> usize
     requires { depth + 8 * length bytes.old < 2 ^ 32 }
     ensures room { result ≤ length bytes.old }
-    ensures renamed { (p : Process) (ns : List ℕ) → scan bytes.old ≡ whole p ns → any_pointer (test_of (Overflow renaming.now)) depth p ≡ false → (result ≡ length (write p)) × (bytes.new ≡ write (rename (function_of renaming.now) depth p) ++ ns) }
+    ensures renamed { (p : Process) (ns : List ℕ) → scan bytes.old ≡ whole p ns → any_pointer (passes_255 renaming.now) depth p ≡ false → (result ≡ length (write p)) × (bytes.new ≡ write (rename (function_of renaming.now) depth p) ++ ns) }
 {
     let Ok(head) = Head::read(bytes) else {
         return 0;
@@ -88,15 +86,16 @@ impl Term<'_> {
     pub fn has_free(&self, pointer: u8) -> bool
         ensures { result ≡ free pointer (tree self.now) }
     {
-        let sought = Sought::pointer(pointer);
-        clear(self.bytes(), 0, &sought).is_none()
+        let whole = Stretch::of(self);
+        clear(&whole, &|depth, p| is_counted(pointer, depth, p)).is_none()
     }
 
     // Whether a pointer would pass 255 by the renaming.
     pub fn overflows(&self, renaming: Renaming<'_>) -> bool
         ensures { result ≡ not (are_bytes (write (rename (function_of renaming.entry) 0 (tree self.now)))) }
     {
-        clear(self.bytes(), 0, &Sought::Overflow(renaming)).is_none()
+        let whole = Stretch::of(self);
+        clear(&whole, &|depth, p| renaming.apply(depth, p) > 255).is_none()
     }
 
     // Writes the renamed term to the start of `out`, and answers its length, which is that of the term.
@@ -107,18 +106,12 @@ impl Term<'_> {
         ensures term { IfOk result (λ n. is_term (take n out.new) ≡ true) }
     {
         if self.overflows(renaming) {
-            return Err(Fault {
-                refusal: Refusal::PointerOverflow,
-                place: 0,
-            });
+            return Err(Refusal::PointerOverflow.at(0));
         }
         let bytes = self.bytes();
         let size = bytes.len();
         if out.len() < size {
-            return Err(Fault {
-                refusal: Refusal::BufferTooShort,
-                place: 0,
-            });
+            return Err(Refusal::BufferTooShort.at(0));
         }
         out[0..size].copy_from_slice(bytes);
         let _size = rename_in_place(&renaming, 0, &mut out[0..size]);

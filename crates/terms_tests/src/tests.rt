@@ -226,29 +226,29 @@ fn pointers_rise_and_fall_by_one(rt: HostRuntime) {
     renames(
         &rt,
         &[2, 0, 1, 1, 0, 1, 1, 0],
-        Renaming::raise(),
+        Renaming::Raise,
         &[2, 1, 1, 1, 0, 1, 2, 0],
     );
     renames(
         &rt,
         &[2, 1, 1, 1, 0, 1, 2, 0],
-        Renaming::lower(),
+        Renaming::Lower,
         &[2, 0, 1, 1, 0, 1, 1, 0],
     );
-    renames(&rt, &[1, 254, 0, 0], Renaming::raise(), &[1, 255, 0, 0]);
-    overflows(&rt, &[1, 255, 0, 0], Renaming::raise());
-    overflows(&rt, &[1, 0, 1, 255, 0], Renaming::raise());
-    overflows(&rt, &[4, 0, 2, 255, 0, 0], Renaming::raise());
+    renames(&rt, &[1, 254, 0, 0], Renaming::Raise, &[1, 255, 0, 0]);
+    overflows(&rt, &[1, 255, 0, 0], Renaming::Raise);
+    overflows(&rt, &[1, 0, 1, 255, 0], Renaming::Raise);
+    overflows(&rt, &[4, 0, 2, 255, 0, 0], Renaming::Raise);
     renames(
         &rt,
         &[5, 0, 1, 254, 0, 0],
-        Renaming::raise(),
+        Renaming::Raise,
         &[5, 0, 1, 255, 0, 0],
     );
-    overflows(&rt, &[5, 0, 1, 255, 0, 0], Renaming::raise());
+    overflows(&rt, &[5, 0, 1, 255, 0, 0], Renaming::Raise);
     // 255 stays where 256 names are bound
-    assert!(rt; !term(&rt, &below_inputs(8, 255)).overflows(Renaming::raise()));
-    assert!(rt; term(&rt, &below_inputs(7, 255)).overflows(Renaming::raise()));
+    assert!(rt; !term(&rt, &below_inputs(8, 255)).overflows(Renaming::Raise));
+    assert!(rt; term(&rt, &below_inputs(7, 255)).overflows(Renaming::Raise));
 }
 
 #[test]
@@ -256,13 +256,13 @@ fn pointers_are_exchanged_under_binders(rt: HostRuntime) {
     renames(
         &rt,
         &[2, 0, 2, 1, 2, 3, 0, 3, 4, 0],
-        Renaming::exchange(),
+        Renaming::Exchange,
         &[2, 1, 2, 1, 3, 3, 0, 2, 4, 0],
     );
     // under 255 bound names pointer 255 would become 256, and 254 stays
-    assert!(rt; term(&rt, &below_inputs(7, 255)).overflows(Renaming::exchange()));
-    assert!(rt; !term(&rt, &below_inputs(7, 254)).overflows(Renaming::exchange()));
-    assert!(rt; !term(&rt, &below_inputs(6, 255)).overflows(Renaming::exchange()));
+    assert!(rt; term(&rt, &below_inputs(7, 255)).overflows(Renaming::Exchange));
+    assert!(rt; !term(&rt, &below_inputs(7, 254)).overflows(Renaming::Exchange));
+    assert!(rt; !term(&rt, &below_inputs(6, 255)).overflows(Renaming::Exchange));
 }
 
 #[test]
@@ -270,30 +270,30 @@ fn objects_are_sent_to_their_depth(rt: HostRuntime) {
     renames(
         &rt,
         &[5, 7, 1, 1, 0, 0],
-        Renaming::send(&[1]),
+        Renaming::Send(&[1]),
         &[5, 7, 1, 2, 0, 0],
     );
     renames(
         &rt,
         &[1, 1, 2, 0, 2, 0],
-        Renaming::send(&[8, 9]),
+        Renaming::Send(&[8, 9]),
         &[1, 9, 2, 8, 0, 0],
     );
-    renames(&rt, &[1, 3, 0, 0], Renaming::send(&[]), &[1, 3, 0, 0]);
+    renames(&rt, &[1, 3, 0, 0], Renaming::Send(&[]), &[1, 3, 0, 0]);
     renames(
         &rt,
         &[1, 255, 0, 0],
-        Renaming::send(&[255]),
+        Renaming::Send(&[255]),
         &[1, 254, 0, 0],
     );
-    renames(&rt, &[1, 0, 0, 0], Renaming::send(&[255]), &[1, 255, 0, 0]);
+    renames(&rt, &[1, 0, 0, 0], Renaming::Send(&[255]), &[1, 255, 0, 0]);
     renames(
         &rt,
         &[5, 7, 1, 1, 0, 0],
-        Renaming::send(&[254]),
+        Renaming::Send(&[254]),
         &[5, 7, 1, 255, 0, 0],
     );
-    overflows(&rt, &[5, 7, 1, 1, 0, 0], Renaming::send(&[255]));
+    overflows(&rt, &[5, 7, 1, 1, 0, 0], Renaming::Send(&[255]));
 }
 
 #[test]
@@ -301,12 +301,12 @@ fn a_buffer_must_be_long_enough(rt: HostRuntime) {
     let sample = term(&rt, &SAMPLE);
     let mut short = [OLD; 9];
     assert_eq!(rt;
-        sample.rename(Renaming::raise(), &mut short),
+        sample.rename(Renaming::Raise, &mut short),
         Err(Refusal::BufferTooShort.at(0))
     );
     assert_eq!(rt; short[0], OLD);
     let mut out = [OLD; 10];
-    assert_eq!(rt; sample.rename(Renaming::raise(), &mut out), Ok(10));
+    assert_eq!(rt; sample.rename(Renaming::Raise, &mut out), Ok(10));
     assert!(rt; &out[0..10] == &[4, 1, 1, 1, 2, 0, 2, 1, 1, 0][0..10]);
 }
 
@@ -317,7 +317,7 @@ fn the_deepest_term_has_stack_enough(rt: HostRuntime) {
     bytes[4095] = 0;
     let deepest = term(&rt, &bytes);
     let mut out = [OLD; LONGEST_TERM];
-    assert_eq!(rt; deepest.rename(Renaming::raise(), &mut out), Ok(4096));
+    assert_eq!(rt; deepest.rename(Renaming::Raise, &mut out), Ok(4096));
     assert!(rt; &out[0..4096] == &bytes[0..4096]);
     assert!(rt; !deepest.has_free(0));
     assert_eq!(rt; deepest.find(4095), found(4095, 4096, 0, false));

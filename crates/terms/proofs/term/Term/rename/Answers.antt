@@ -1,4 +1,4 @@
-use Rattle.std.proofs.Common.{◌≡◌, ◌-◌, true, length, Ok, sym, ap, ◌∙◌, arith}
+use Rattle.std.proofs.Common.{◌≡◌, ◌-◌, true, length, Ok, Err, sym, ap, ◌∙◌, arith}
 use Rattle.std.proofs.lemmas.List.{length-take}
 use Rattle.refusal.proofs.Writes.{answered_declined, left_declined, answered_written, left_written}
 use Rattle.calculus.specs.Trees.{write}
@@ -13,7 +13,7 @@ use Rattle.terms.proofs.term.Term.rename.Goals as goal
 pub returns-then-overflows : goal.returns-then-overflows
 returns-then-overflows c =
     let is = renaming_declined (function_of c.args.renaming) (tree c.args.self.now) (length c.args.out.now) c.if-overflows.ensures in
-    record { answer = sym (answered_declined _ _ is); buffer = sym (left_declined _ _ is c.args.out.now); size = tt; term = tt }
+    record { answer = ap Err c.at.ensures ∙ sym (answered_declined _ _ is); buffer = sym (left_declined _ _ is c.args.out.now); size = tt; term = tt }
 
 pub returns-then-out-size : goal.returns-then-out-size
 returns-then-out-size c =
@@ -21,7 +21,7 @@ returns-then-out-size c =
     let long = term_length (bytes_of c.args.self.now) term in
     let same = ap length c.bytes-bytes.ensures.bytes in
     let is = renaming_short (function_of c.args.renaming) (tree c.args.self.now) (length c.args.out.now) c.if-overflows.ensures (omega arith) in
-    record { answer = sym (answered_declined _ _ is); buffer = sym (left_declined _ _ is c.args.out.now); size = tt; term = tt }
+    record { answer = ap Err c.at-then-out-size.ensures ∙ sym (answered_declined _ _ is); buffer = sym (left_declined _ _ is c.args.out.now); size = tt; term = tt }
 
 pub rename_in_place-size-requires : goal.rename_in_place-size-requires
 rename_in_place-size-requires c =
