@@ -7,6 +7,7 @@ ghost use Rattle.std.specs.Ordering.{on};
 ghost use Rattle.std.specs.Cmp.{partial_equiv_from_equiv};
 ghost use Rattle.refusal.specs.Numbers.{number_of};
 ghost use Rattle.refusal.specs.Words.{words_of};
+ghost use Rattle.refusal.specs.Writes.{fault};
 ghost use Rattle.std.specs.Cmp.Rules.{comparing};
 ghost use Rattle.std.proofs.Common.{rules};
 
@@ -130,6 +131,16 @@ impl Refusal {
             Refusal::SortPresent => "the table has a row of that sort",
             Refusal::TableFull => "the table has 64 rows",
             Refusal::NoSuchPlace => "the table has no such place",
+        }
+    }
+
+    // The fault of this refusal at a place.
+    pub fn at(self, place: usize) -> Fault
+        ensures { result ≡ fault self place }
+    {
+        Fault {
+            refusal: self,
+            place,
         }
     }
 }
