@@ -1,6 +1,6 @@
 -- Sealing and opening undo each other: by induction over the blocks.
-use Rattle.std.proofs.Common.{◌≡◌, ℕ, zero, suc, ◌+◌, ◌-◌, ◌*◌, ◌/◌, ◌%◌, ◌<◌, ◌≤◌, true, ◌⊎◌, List, ◌++◌, length, get_or, take, drop, None, Ok, sym, refl, ap, ◌∙◌, inl, inr, arith}
-use Rattle.std.proofs.lemmas.List.{take_at, drop_at, take_all, drop_all, take-append-drop, length-take, length-drop, length-append, append-nil, get_or-take, get_or-drop, get_or_past, nil_from_length}
+use Rattle.std.proofs.Common.{◌≡◌, ℕ, zero, suc, ◌+◌, ◌-◌, ◌*◌, ◌/◌, ◌%◌, ◌<◌, ◌≤◌, true, ◌⊎◌, List, ◌++◌, length, take, drop, None, Ok, sym, refl, ap, ◌∙◌, inl, inr, arith}
+use Rattle.std.proofs.lemmas.List.{take_at, drop_at, take_all, drop_all, take-append-drop, length-take, length-drop, length-append, append-nil, nil_from_length}
 use Rattle.std.proofs.lemmas.Bool.{cases_lt, and_from, eq-eqb, lt-ltb, le-leb}
 use Rattle.std.proofs.lemmas.Bool.Decides.{nat_tests}
 use Rattle.blocks.specs.Sealing.{block, blocks_from, block_count, sheet_of}
@@ -9,6 +9,7 @@ use Rattle.blocks.specs.Laws.{OpensAgain, SealedOnly}
 use Rattle.blocks.proofs.Examined.{fault_none}
 use Rattle.blocks.proofs.Fields.{payload_sealed, checked_sealed, formed_sealed, length_read, sealed_read}
 use Rattle.blocks.proofs.Opened.{or_else_none, fine_block, formed_parts, opened_ok, opened_fine, whole_parts}
+use Rattle.blocks.proofs.Parts.{Bytes, bytes_take, bytes_drop}
 use Rattle.blocks.proofs.Packed.{length-block, length_payload, length-sheet_of}
 
 -- a stream takes so many blocks, the first under that number
@@ -99,20 +100,6 @@ split_at (suc more) n used p r e u (short, inl long) =
     let full : length p ≡ 504 = e ∙ full_used n used more u in
     (take_at p r 504 full, drop_at p r 504 full, (omega arith, inl (omega arith)))
 split_at (suc more) n used p r e u (short, inr none) = absurd (omega (arith, none.1))
-
--- a list of bytes
-abbrev pub Bytes : List ℕ → Type 0
-Bytes bs = (i : ℕ) → get_or bs i 0 < 256
-
-bytes_take : (k : ℕ) (bs : List ℕ) → Bytes bs → Bytes (take k bs)
-bytes_take k bs bytes i = by_place (cases_lt i k)
-  where
-    by_place : (i < k) ⊎ (k ≤ i) → get_or (take k bs) i 0 < 256
-    by_place (inl within) = omega (arith, get_or-take k bs i 0 within, bytes i)
-    by_place (inr past) = omega (arith, get_or_past (take k bs) i 0 (omega (arith, length-take k bs)))
-
-bytes_drop : (k : ℕ) (bs : List ℕ) → Bytes bs → Bytes (drop k bs)
-bytes_drop k bs bytes i = omega (arith, get_or-drop k bs i 0, bytes (k + i))
 
 -- blocks without fault are the blocks of what they hold
 packs_from : (k n : ℕ) (bs : List ℕ) → Bytes bs → length bs ≡ k * 512 → fault_from k n bs ≡ None → (blocks_from k n (payloads k bs) ≡ bs) × Takes k n (payloads k bs)

@@ -1,8 +1,6 @@
 -- The blocks of a stream, one after another: their lengths, and one turn of the loop that writes them.
-use Rattle.std.proofs.Common.{◌≡◌, ℕ, zero, suc, ◌+◌, ◌-◌, ◌*◌, ◌/◌, ◌<◌, ◌≤◌, ◌⊎◌, List, ◌++◌, length, take, drop, Ok, Err, sym, refl, ap, ◌∙◌, inl, inr, append_assoc, add-one, arith}
-use borrow.Rule.Slice.PartMut.{put_mid}
-use Rattle.std.proofs.lemmas.List.{length-append, length-take, length-replicate, drop-drop, append-nil, take-append-drop}
-use Rattle.std.proofs.lemmas.Slice.{take-put_mid, drop-put_mid}
+use Rattle.std.proofs.Common.{◌≡◌, ℕ, zero, suc, ◌+◌, ◌*◌, ◌/◌, ◌%◌, ◌<◌, ◌≤◌, ◌⊎◌, min, max, List, ◌++◌, length, take, drop, Ok, Err, sym, refl, ap, ◌∙◌, inl, inr, append_assoc, add-zero, arith}
+use Rattle.std.proofs.lemmas.List.{length-append, length-take, length-replicate, drop-drop, append-nil}
 use Rattle.std.proofs.lemmas.Bool.{lt-ltb, le-ltb, cases_lt}
 use Rattle.refusal.specs.declared.Refusal.TheVariants.{StreamTooLong, BufferTooShort}
 use Rattle.refusal.specs.Writes.{fault, answered, within}
@@ -47,45 +45,20 @@ pub packing_fits : (s : List ℕ) (room : ℕ) → length s ≤ 64512 → length
 packing_fits s room h k = packing_is s room h ∙ within_fits room (sheet_of s) k
 
 -- how many blocks the code counts
-pub count_is : (s : List ℕ) (r : ℕ) → r ≡ length s - 1 → r / 504 + 1 ≡ block_count s
+pub count_is : (s : List ℕ) (whole count : ℕ) → whole ≡ length s / 504 + min 1 (length s % 504) → count ≡ max whole 1 → count ≡ block_count s
 unfolding block_count
-count_is s r e = add-one (r / 504) ∙ ap (λ (m : ℕ). suc (m / 504)) e
+count_is s whole count e f = omega arith
 
-module _ (s o : List ℕ) (n count : ℕ) where
-  -- so many blocks are written, and what follows them is the blocks to come
-  abbrev pub Sealing : List ℕ → Type 0
-  Sealing sheet = take (n * 512) o ++ blocks_from (count - n) n (drop (n * 504) s) ≡ sheet
-
-  -- once all are written, the buffer is the sheet and what stood past it
-  pub pack_all : (o₀ sheet : List ℕ) → count ≡ n → length sheet ≡ n * 512 → Sealing sheet → drop (n * 512) o ≡ drop (n * 512) o₀ → o ≡ sheet ++ drop (length sheet) o₀
-  unfolding blocks_from
-  pack_all o₀ sheet e long seals past =
-      let none : count - n ≡ 0 = omega arith in
-      let start : take (n * 512) o ≡ sheet
-      = sym (append-nil (take (n * 512) o)) ∙ sym (ap (λ (k : ℕ). take (n * 512) o ++ blocks_from k n (drop (n * 504) s)) none) ∙ seals in
-      sym (take-append-drop (n * 512) o) ∙ ap (λ (x : List ℕ). x ++ drop (n * 512) o) start ∙ ap (λ (x : List ℕ). sheet ++ x) past ∙ ap (λ (m : ℕ). sheet ++ drop m o₀) (sym long)
-
--- one block more is written
-module _ (s o b : List ℕ) (n count width : ℕ) (room : (n + 1) * 512 ≤ length o) (wide : width ≡ 512) (b_is : b ≡ block n (take 504 (drop (n * 504) s))) where
-  long : length b ≡ 512
-  long = ap length b_is ∙ length-block n (take 504 (drop (n * 504) s)) (length_payload (drop (n * 504) s))
-
-  pub pack_more : (sheet : List ℕ) → n < count → Sealing s o n count sheet → Sealing s (put_mid (n * 512) width o b) (n + 1) count sheet
-  unfolding blocks_from
-  pack_more sheet h before =
-      let start : take ((n + 1) * 512) (put_mid (n * 512) width o b) ≡ take (n * 512) o ++ b = take-put_mid (n * 512) width o b ((n + 1) * 512) (omega (arith, long)) (omega arith) in
-      let step : count - n ≡ suc (count - (n + 1)) = omega arith in
-      let next : suc n ≡ n + 1 = omega arith in
-      let on : drop 504 (drop (n * 504) s) ≡ drop ((n + 1) * 504) s = drop-drop 504 (n * 504) s ∙ ap (λ (m : ℕ). drop m s) (omega arith) in
-      let more : blocks_from (count - n) n (drop (n * 504) s) ≡ b ++ blocks_from (count - (n + 1)) (n + 1) (drop ((n + 1) * 504) s)
-      = ap (λ (k : ℕ). blocks_from k n (drop (n * 504) s)) step ∙ rw (sym b_is, next, on) in
-      rw (start, append_assoc, sym more) before
-
-  -- and nothing past it
-  pub pack_past : (o₀ : List ℕ) → drop (n * 512) o ≡ drop (n * 512) o₀ → drop ((n + 1) * 512) (put_mid (n * 512) width o b) ≡ drop ((n + 1) * 512) o₀
-  pack_past o₀ before =
-      let on : (xs : List ℕ) → drop ((n + 1) * 512) xs ≡ drop 512 (drop (n * 512) xs) = λ xs. ap (λ (m : ℕ). drop m xs) (omega arith) ∙ sym (drop-drop 512 (n * 512) xs) in
-      drop-put_mid (n * 512) width o b ((n + 1) * 512) (omega arith) (omega arith) (long ∙ sym wide) ∙ on o ∙ ap (λ (xs : List ℕ). drop 512 xs) before ∙ sym (on o₀)
+-- the first blocks, and the next one
+pub blocks_more : (n m k : ℕ) (s : List ℕ) → m + n ≡ k → blocks_from (n + 1) m s ≡ blocks_from n m s ++ block k (take 504 (drop (n * 504) s))
+unfolding blocks_from
+blocks_more zero m k s e = rw (sym e, add-zero m) (append-nil (block m (take 504 s)))
+blocks_more (suc n) m k s e =
+    let on : drop (n * 504) (drop 504 s) ≡ drop (suc n * 504) s = drop-drop (n * 504) 504 s ∙ ap (λ (k : ℕ). drop k s) (omega arith) in
+    let later = blocks_more n (suc m) k (drop 504 s) (omega arith) in
+    let count : suc n + 1 ≡ suc (n + 1) = omega arith in
+    ap (λ (j : ℕ). blocks_from j m s) count ∙ ap (λ (bs : List ℕ). block m (take 504 s) ++ bs) (later ∙ ap (λ (x : List ℕ). blocks_from n (suc m) (drop 504 s) ++ block k (take 504 x)) on)
+    ∙ sym (append_assoc (block m (take 504 s)) (blocks_from n (suc m) (drop 504 s)) (block k (take 504 (drop (suc n * 504) s))))
 
 -- what an accepted packing tells
 pub packing_ok : (s : List ℕ) (room size : ℕ) → answered (packing s room) ≡ Ok size → (packing s room ≡ Ok (sheet_of s)) × (length (sheet_of s) ≡ size) × (length s ≤ 64512)
@@ -95,7 +68,7 @@ packing_ok s room size e =
   where
     by_length : (bytes : List ℕ) → packing s room ≡ Ok bytes → length bytes ≡ size → (64512 < length s) ⊎ (length s ≤ 64512) →
         (packing s room ≡ Ok (sheet_of s)) × (length (sheet_of s) ≡ size) × (length s ≤ 64512)
-    by_length bytes is l (inl long) = let d = packing_long s room long in let z : ◌≡◌ {A = ℕ} 0 1 = cc in absurd (omega arith)
+    by_length bytes is l (inl long) = absurd (cc (packing_long s room long))
     by_length bytes is l (inr short) =
         let both = within_ok room (Ok (sheet_of s)) bytes (sym (packing_is s room short) ∙ is) in
         let same : sheet_of s ≡ bytes = cc in

@@ -52,6 +52,11 @@ unfoldable pub payloads : ℕ → List ℕ → List ℕ
 payloads zero blocks = []
 payloads (suc more) blocks = payload_of (take 512 blocks) ++ payloads more (drop 512 blocks)
 
+-- the first fault of blocks that are given one by one, with their numbers from the given one
+unfoldable pub first_fault : ℕ → List (List ℕ) → Option Fault
+first_fault number [] = None
+first_fault number (b ∷ bs) = or_else (fault_of number (length bs) b) (first_fault (suc number) bs)
+
 -- what is found, unless there is a fault
 unfoldable pub unless : {X : Type 0} → Option Fault → X → Result X Fault
 unless None found = Ok found

@@ -7,6 +7,7 @@
 ghost use Rattle.std.specs.Prelude.{◌≡◌, ◌<◌, ◌≤◌, length, take};
 ghost use Rattle.blocks.specs.Check.{sum_from, check_of};
 
+mod block;
 mod opening;
 mod sealing;
 #[cfg(test)]
@@ -37,6 +38,7 @@ pub const LONGEST_SHEET: usize = 65_536;
 const CHECK_MODULUS: u32 = 65_521;
 
 // The sum of (i + 1) × byte i over at most 508 bytes.
+// It is a loop over the bytes with their index, as was asked for.
 fn weighted_sum(bytes: &[u8]) -> u32
     requires { length bytes.now ≤ 508 }
     ensures sum { result ≡ sum_from 1 bytes.now }

@@ -30,24 +30,21 @@ pub fn pack(stream: &[u8], out: &mut [u8]) -> Result<usize, Fault>
     ensures opens { OpensAgain stream.now }
 {
     if stream.len() > LONGEST_STREAM {
-        return Err(Fault {
-            refusal: Refusal::StreamTooLong,
-            place: 0,
-        });
+        return Err(Refusal::StreamTooLong.at(0));
     }
-    let count = stream.len().saturating_sub(1) / PAYLOAD + 1;
+    // An empty stream has one block too.
+    let count = stream.len().div_ceil(PAYLOAD).max(1);
     let size = count * BLOCK;
     if out.len() < size {
-        return Err(Fault {
-            refusal: Refusal::BufferTooShort,
-            place: 0,
-        });
+        return Err(Refusal::BufferTooShort.at(0));
     }
-    for n in 0..count {
-        let from = n * PAYLOAD;
-        let end = stream.len().min(from + PAYLOAD);
-        let at = n * BLOCK;
-        seal_block(n as u16, &stream[from..end], &mut out[at..at + BLOCK]);
+    // The blocks are written by their places: once `chunks_exact_mut` has lent a buffer, no proof knows its bytes.
+    let mut rest = stream;
+    for number in 0..count {
+        let (payload, later) = rest.split_at(rest.len().min(PAYLOAD));
+        let at = number * BLOCK;
+        seal_block(number as u16, payload, &mut out[at..at + BLOCK]);
+        rest = later;
     }
     Ok(size)
 }

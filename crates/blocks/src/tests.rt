@@ -1,6 +1,7 @@
 // Examples of sealing and opening, and every refusal at its place.
 use crate::{BLOCK, LONGEST_SHEET, LONGEST_STREAM, check, pack, unpack};
 use refusal::{Fault, Refusal};
+use std::array;
 use std::process::Abort;
 
 // One byte more than the longest stream.
@@ -14,37 +15,32 @@ const OLD: u8 = 0xee;
 
 // A stream in which neighbours differ.
 fn stream() -> [u8; STREAM] {
-    let mut bytes = [0u8; STREAM];
-    for (i, byte) in bytes.iter_mut().enumerate() {
-        *byte = (i % 251) as u8;
-    }
-    bytes
+    array::from_fn(|i| (i % 251) as u8)
 }
 
 fn declined(refusal: Refusal, place: usize) -> Result<usize, Fault> {
-    Err(Fault { refusal, place })
+    Err(refusal.at(place))
 }
 
-// Writes the right check into block n.
-fn reseal(sheet: &mut [u8], n: usize) {
-    if n < 128 && sheet.len() >= (n + 1) * 512 {
-        let at = n * 512;
-        let sum = check(&sheet[at..at + 512]).to_le_bytes();
-        sheet[at + 508..at + 512].copy_from_slice(&sum);
-    }
+fn is_old(bytes: &[u8]) -> bool {
+    bytes.iter().all(|byte| *byte == OLD)
 }
 
 fn alter(sheet: &mut [u8], bytes: &[(usize, u8)]) {
     for (at, byte) in bytes {
-        if *at < sheet.len() {
-            sheet[*at] = *byte;
+        if let Some(old) = sheet.get_mut(*at) {
+            *old = *byte;
         }
     }
 }
 
-fn reseal_all(sheet: &mut [u8], numbers: &[usize]) {
-    for n in numbers {
-        reseal(sheet, *n);
+// Writes the right check into the blocks of those numbers.
+fn reseal(sheet: &mut [u8], numbers: &[usize]) {
+    for (number, block) in sheet.chunks_exact_mut(BLOCK).enumerate() {
+        if numbers.contains(&number) {
+            let sum = check(block).to_le_bytes();
+            block[508..512].copy_from_slice(&sum);
+        }
     }
 }
 
@@ -54,7 +50,7 @@ fn open_altered(bytes: &[(usize, u8)], resealed: &[usize]) -> Result<usize, Faul
     let mut sheet = [0u8; 1536];
     let _ = pack(&all[0..1200], &mut sheet);
     alter(&mut sheet, bytes);
-    reseal_all(&mut sheet, resealed);
+    reseal(&mut sheet, resealed);
     let mut out = [OLD; 1200];
     unpack(&sheet, &mut out)
 }
@@ -66,15 +62,11 @@ fn round_trip(rt: &impl Abort, length: usize, size: usize) {
     let mut out = [OLD; STREAM];
     assert!(rt; length <= STREAM);
     assert!(rt; size <= LONGEST_SHEET);
-    assert_eq!(rt; pack(&all[0..length], &mut sheet), Ok(size));
-    assert_eq!(rt; unpack(&sheet[0..size], &mut out), Ok(length));
-    assert!(rt; &out[0..length] == &all[0..length]);
-    for byte in &out[length..] {
-        assert_eq!(rt; *byte, OLD);
-    }
-    for byte in &sheet[size..] {
-        assert_eq!(rt; *byte, OLD);
-    }
+    assert_eq!(rt; pack(&all[..length], &mut sheet), Ok(size));
+    assert_eq!(rt; unpack(&sheet[..size], &mut out), Ok(length));
+    assert!(rt; out[..length] == all[..length]);
+    assert!(rt; is_old(&out[length..]));
+    assert!(rt; is_old(&sheet[size..]));
 }
 
 #[test]
@@ -82,8 +74,8 @@ fn one_byte_has_its_check(rt: HostRuntime) {
     let mut sheet = [OLD; 513];
     assert_eq!(rt; pack(&[7], &mut sheet), Ok(512));
     assert_eq!(rt; check(&sheet), 38);
-    assert!(rt; &sheet[0..6] == &[0u8, 0, 1, 0, 7, 0][0..6]);
-    assert!(rt; &sheet[507..513] == &[0u8, 38, 0, 0, 0, OLD][0..6]);
+    assert!(rt; sheet[..6] == [0, 0, 1, 0, 7, 0]);
+    assert!(rt; sheet[507..] == [0, 38, 0, 0, 0, OLD]);
 }
 
 #[test]
@@ -106,98 +98,59 @@ fn packing_is_declined(rt: HostRuntime) {
         declined(Refusal::BufferTooShort, 0)
     );
     assert_eq!(rt;
-        pack(&all[0..0], &mut sheet[0..511]),
+        pack(&[], &mut sheet[0..511]),
         declined(Refusal::BufferTooShort, 0)
     );
-    for byte in &sheet {
-        assert_eq!(rt; *byte, OLD);
-    }
+    assert!(rt; sheet == [OLD; 1023]);
 }
 
 #[test]
 fn opening_wants_whole_blocks(rt: HostRuntime) {
     let sheet = [0u8; OVERLONG_SHEET];
     let mut out = [OLD; 600];
-    assert_eq!(rt;
-        unpack(&sheet[0..0], &mut out),
-        declined(Refusal::NotWholeBlocks, 0)
-    );
-    assert_eq!(rt;
-        unpack(&sheet[0..511], &mut out),
-        declined(Refusal::NotWholeBlocks, 0)
-    );
-    assert_eq!(rt;
-        unpack(&sheet[0..513], &mut out),
-        declined(Refusal::NotWholeBlocks, 0)
-    );
-    assert_eq!(rt;
-        unpack(&sheet, &mut out),
-        declined(Refusal::NotWholeBlocks, 0)
-    );
-    assert_eq!(rt; unpack(&sheet[0..512], &mut out), Ok(0));
-}
-
-// A byte of the three blocks that is altered, and whether its block is resealed.
-#[derive(Clone, Copy)]
-struct Altered {
-    at: usize,
-    byte: u8,
-    reseal: bool,
-    refusal: Refusal,
-    block: usize,
-}
-
-const fn broken(at: usize, byte: u8) -> Altered {
-    Altered {
-        at,
-        byte,
-        reseal: false,
-        refusal: Refusal::CheckDiffers,
-        block: at / 512,
+    for part in [&sheet[..0], &sheet[..511], &sheet[..513], &sheet[..]] {
+        assert_eq!(rt;
+            unpack(part, &mut out),
+            declined(Refusal::NotWholeBlocks, 0)
+        );
     }
+    assert_eq!(rt; unpack(&sheet[..512], &mut out), Ok(0));
 }
 
-const fn resealed(at: usize, byte: u8) -> Altered {
-    Altered {
-        at,
-        byte,
-        reseal: true,
-        refusal: Refusal::BlockMalformed,
-        block: at / 512,
+#[test]
+fn altered_bytes_are_told(rt: HostRuntime) {
+    assert_eq!(rt; open_altered(&[], &[]), Ok(1200));
+    // a payload byte, and the last byte of a check
+    for (at, byte) in [(600, 0), (1535, 1)] {
+        assert_eq!(rt;
+            open_altered(&[(at, byte)], &[]),
+            declined(Refusal::CheckDiffers, at / 512)
+        );
     }
 }
 
 #[test]
-fn altered_blocks_are_declined(rt: HostRuntime) {
-    let cases = [
-        // a payload byte, and the last byte of a check
-        broken(600, 0),
-        broken(1535, 1),
+fn malformed_blocks_are_told(rt: HostRuntime) {
+    let altered = [
         // the low and the high byte of a number
-        resealed(512, 2),
-        resealed(1, 1),
+        (512, 2),
+        (1, 1),
         // used lengths where others follow: 503, 505, 1016
-        resealed(514, 0xf7),
-        resealed(514, 0xf9),
-        resealed(3, 3),
+        (514, 0xf7),
+        (514, 0xf9),
+        (3, 3),
         // used lengths of the last: 0, 704
-        resealed(1026, 0),
-        resealed(1027, 2),
+        (1026, 0),
+        (1027, 2),
         // the filling, at its first byte and its last
-        resealed(1220, 1),
-        resealed(1531, 1),
+        (1220, 1),
+        (1531, 1),
     ];
-    assert_eq!(rt; open_altered(&[], &[]), Ok(1200));
-    for case in &cases {
-        let numbers = [case.block];
-        let again = if case.reseal {
-            &numbers[0..1]
-        } else {
-            &numbers[0..0]
-        };
+    for (at, byte) in altered {
+        let block = at / 512;
         assert_eq!(rt;
-            open_altered(&[(case.at, case.byte)], again),
-            declined(case.refusal, case.block)
+            open_altered(&[(at, byte)], &[block]),
+            declined(Refusal::BlockMalformed, block)
         );
     }
 }
@@ -235,7 +188,5 @@ fn opening_wants_room(rt: HostRuntime) {
         unpack(&sheet, &mut out),
         declined(Refusal::CheckDiffers, 1)
     );
-    for byte in &out {
-        assert_eq!(rt; *byte, OLD);
-    }
+    assert!(rt; out == [OLD; 504]);
 }

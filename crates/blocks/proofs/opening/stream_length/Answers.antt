@@ -1,31 +1,28 @@
-use Rattle.std.proofs.Common.{◌/◌, length, Ok, sym, ap, ◌∙◌, arith, rules}
+use Rattle.std.proofs.Common.{[], ◌+◌, refl, sym, rules}
 use Rattle.std.proofs.lemmas.Result.{err_from_is_err_and}
-use Rattle.refusal.proofs.Writes.{answered_declined, answered_written}
-use Rattle.blocks.proofs.Opened.{opened_not, opened_fault, opened_fine, examined_fault, used_at, examined_more, examined_all}
+use Rattle.std.proofs.lemmas.List.{take_all, drop_all}
+use Rattle.blocks.specs.Opening.{first_fault, unless}
+use Rattle.blocks.proofs.Opened.{Examined, examined_fault, examined_more}
 use Rattle.blocks.proofs.opening.stream_length.Goals as goal
 
-pub returns-then-not-whole_blocks : goal.returns-then-not-whole_blocks
-returns-then-not-whole_blocks c = sym (answered_declined _ _ (opened_not c.args.blocks.now (sym c.if-not-whole_blocks.ensures)))
-
 pub returns-in_err-size : goal.returns-in_err-size
+unfolding unless
 returns-in_err-size c =
     let p = err_from_is_err_and c.from_residual.result c.from_residual.ensures.1 in
-    let found = examined_fault c.args.blocks.now c.loop-n.n (length c.args.blocks.now / 512) c.loop-n.size c.loop-n-test.true (omega arith) c.loop-n.invariant
-    c.in_err-size.field-0.0 (sym c.in_err-size.ensures) in
-    rw (p.1, p.2) (sym (answered_declined _ _ (opened_fault c.args.blocks.now c.in_err-size.field-0.0 (sym c.if-not-whole_blocks.ensures) found)))
+    rw (p.1, p.2, examined_fault _ _ _ _ [] c.loop-number-test.true refl c.loop-number.invariant c.in_err-size.field-0.0 (sym c.in_err-size.ensures))
+
+more : (c : goal.In_ok-size) → Examined c.args.blocks.now (c.loop-number.number + 1) (c.loop-number.size + c.in_ok-size.field-0)
+more c = examined_more _ _ _ _ [] c.loop-number-test.true refl c.loop-number.invariant c.in_ok-size.field-0 (c.told-blocks c.loop-number.number c.loop-number-test.true) (sym c.in_ok-size.ensures)
 
 pub overflow_add-size : goal.overflow_add-size
-overflow_add-size c =
-    let small = used_at c.args.blocks.now c.loop-n.n (length c.args.blocks.now / 512) c.loop-n.size c.loop-n-test.true (omega arith) c.loop-n.invariant
-    c.in_ok-size.field-0 (sym c.in_ok-size.ensures) in
-    search rules
+overflow_add-size c = let next = more c in search rules
 
-pub loop-n-preserved : goal.loop-n-preserved
-loop-n-preserved c =
-    examined_more c.args.blocks.now c.loop-n.n (length c.args.blocks.now / 512) c.loop-n.size c.loop-n-test.true (omega arith) c.loop-n.invariant
-    c.in_ok-size.field-0 (sym c.in_ok-size.ensures)
+pub loop-number-preserved : goal.loop-number-preserved
+loop-number-preserved c = more c
 
 pub returns : goal.returns
+unfolding unless first_fault
 returns c =
-    let all = examined_all c.args.blocks.now c.loop-n.n (length c.args.blocks.now / 512) c.loop-n.size (omega arith) c.loop-n.invariant in
-    ap Ok all.1 ∙ sym (answered_written _ _ (opened_fine c.args.blocks.now (sym c.if-not-whole_blocks.ensures) all.0))
+    let none = drop_all _ c.args.blocks.now c.loop-number-test.false in
+    let all = take_all _ c.args.blocks.now c.loop-number-test.false in
+    rw (sym c.loop-number.invariant.first, none, c.loop-number.invariant.sum, all)

@@ -1,5 +1,5 @@
 use Rattle.blocks.proofs.Opened.{Examined}
 use Rattle.blocks.proofs.opening.stream_length.Given as goal
 
-abbrev pub invariant-loop-n : goal.invariant-loop-n
-invariant-loop-n l = Examined l.blocks l.n l.count l.size
+abbrev pub invariant-loop-number : goal.invariant-loop-number
+invariant-loop-number l = Examined l.blocks l.number l.size

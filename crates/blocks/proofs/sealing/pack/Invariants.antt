@@ -1,9 +1,11 @@
 use Rattle.std.proofs.Common.{◌≡◌, ◌*◌, drop}
-use Rattle.blocks.specs.Sealing.{sheet_of}
-use Rattle.blocks.proofs.Packed.{Sealing}
+use Rattle.blocks.specs.Sealing.{blocks_from}
+use Rattle.blocks.proofs.Parts.{Holds}
 use Rattle.blocks.proofs.sealing.pack.Given as goal
 
--- what is written, followed by the blocks to come, is the sheet; the rest of the buffer is as it was
-abbrev pub invariant-loop-n : goal.invariant-loop-n
-invariant-loop-n l =
-    Sealing l.stream l.out l.n l.count (sheet_of l.stream) × (drop (l.n * 512) l.out ≡ drop (l.n * 512) l.initial.out)
+-- the blocks so far are written, and nothing past them
+abbrev pub invariant-loop-number : goal.invariant-loop-number
+invariant-loop-number l = record {
+  rest : l.rest ≡ drop (l.number * 504) l.stream;
+  held : Holds (blocks_from l.number 0 l.stream) l.out l.initial.out (l.number * 512);
+}
