@@ -1,8 +1,8 @@
 -- A walk that looks for a pointer, node by node.
-use Rattle.std.proofs.Common.{◌≡◌, ℕ, ◌+◌, ◌-◌, Bool, true, false, cond, not, ◌||◌, List, ◌++◌, length, take, drop, is_some, Some, None, Ok, Err, Option, Result, sym, refl, ap, ◌∙◌, ap₂, arith}
+use Rattle.std.proofs.Common.{◌≡◌, ℕ, ◌+◌, ◌-◌, Bool, true, false, cond, not, ◌||◌, List, ◌++◌, length, take, drop, is_some, is_err, Some, None, Ok, Err, Option, Result, sym, refl, ap, ◌∙◌, ap₂, arith}
 use Rattle.std.proofs.Math.Bool.{or_assoc}
 use Rattle.std.proofs.lemmas.Bool.{false≢true, not-true, not-false}
-use Rattle.std.specs.Option.{option_map, option_and_then}
+use Rattle.std.specs.Option.{IsSome, option_map, option_and_then}
 use Rattle.std.specs.Result.{IsErr}
 use Rattle.calculus.specs.Trees.{Process, terminated, write}
 use Rattle.terms.specs.declared.head.Head.{Head}
@@ -145,6 +145,33 @@ clear_none test d ns e = by_head (head_of ns) refl e
     by_head : (r : Result Head ℕ) → head_of ns ≡ r → IsErr r → clear_of test d (scan ns) ≡ None
     by_head (Ok h) is e = absurd (false≢true e)
     by_head (Err k) is e = ap (clear_of test d) (scan_none ns k is)
+
+-- where there is an answer
+pub headed_clear : (test : ℕ → ℕ → Bool) (d : ℕ) (ns : List ℕ) (k : ℕ) → Err k ≡ head_of ns → IsSome (clear_of test d (scan ns)) → ⊥
+headed_clear test d ns k none some = false≢true (sym (ap is_some (clear_none test d ns (ap is_err (sym none)))) ∙ some)
+
+pub own_clear : (test : ℕ → ℕ → Bool) (d : ℕ) (ns : List ℕ) (h : Head) → head_of ns ≡ Ok h → IsSome (clear_of test d (scan ns)) → (any_of (test d) (subject_in h) || any_of (test d) (objects_in h ns)) ≡ false
+own_clear test d ns h head some = by_own (any_of (test d) (subject_in h) || any_of (test d) (objects_in h ns)) refl
+  where
+    by_own : (b : Bool) → (any_of (test d) (subject_in h) || any_of (test d) (objects_in h ns)) ≡ b → (any_of (test d) (subject_in h) || any_of (test d) (objects_in h ns)) ≡ false
+    by_own true is = absurd (false≢true (sym (ap is_some (clear_node test d ns h true head (sym is))) ∙ some))
+    by_own false is = is
+
+pub record Clear (test : ℕ → ℕ → Bool) (d : ℕ) (s : Scanned) (n : ℕ) : Type 0 where
+  pub process : Process
+  pub rest : List ℕ
+  pub is : s ≡ whole process rest
+  pub none : any_pointer test d process ≡ false
+  pub long : n ≡ length (write process)
+
+pub clear_some : (test : ℕ → ℕ → Bool) (d : ℕ) (s : Scanned) (n : ℕ) → Some n ≡ clear_of test d s → Clear test d s n
+unfolding clear_of
+clear_some test d (stuck q) n e = absurd (false≢true (sym (ap is_some e)))
+clear_some test d (whole p q) n e = by_test (any_pointer test d p) refl e
+  where
+    by_test : (b : Bool) → any_pointer test d p ≡ b → Some n ≡ cond b None (Some (length (write p))) → Clear test d (whole p q) n
+    by_test true is h = absurd (false≢true (sym (ap is_some h)))
+    by_test false is h = record { process = p; rest = q; is = refl; none = is; long = cc }
 
 -- what is told of a whole term
 pub clear_told : (test : ℕ → ℕ → Bool) (ns : List ℕ) (o : Option ℕ) (r : Bool) → is_term ns ≡ true → o ≡ clear_of test 0 (scan ns) → is_some o ≡ not r → r ≡ any_pointer test 0 (tree_of ns)

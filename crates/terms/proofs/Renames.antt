@@ -1,8 +1,9 @@
 -- Renaming in place: the pointers of a head, then those of its parts.
-use Rattle.std.proofs.Common.{◌≡◌, ℕ, ◌+◌, ◌-◌, ◌<◌, ◌≤◌, Bool, true, false, not, ◌||◌, ltb, List, [], ◌∷◌, ◌++◌, map, length, take, drop, Ok, Err, sym, refl, ap, ◌∙◌, ap₂, arith}
+use Rattle.std.proofs.Common.{◌≡◌, ℕ, ◌+◌, ◌-◌, ◌<◌, ◌≤◌, Bool, true, false, cond, not, ◌||◌, ltb, List, ◌∷◌, ◌++◌, map, length, take, drop, is_some, Some, None, Ok, Err, Option, sym, refl, ap, ◌∙◌, ap₂, arith}
 use borrow.Rule.Slice.PartMut.{put_mid}
-use Rattle.std.proofs.lemmas.List.{append_assoc, append-nil, length-append, length-map, length-drop, length-take-le, take_at, drop_at, drop_all, take_rest}
-use Rattle.std.proofs.lemmas.Bool.{or_parts, cond-true, cond-false}
+use Rattle.std.proofs.lemmas.List.{append_assoc, append-nil, length-map, length-drop, take_at, drop_at, drop_all, take_rest}
+use Rattle.std.proofs.lemmas.Bool.{not-true, not-false, or_parts, cond-true, cond-false}
+use Rattle.std.specs.Option.{IsSome, option_map, option_and_then}
 use Rattle.calculus.specs.Trees.{Process, terminated, write}
 use Rattle.calculus.specs.Names.{rename}
 use Rattle.refusal.specs.declared.Refusal.TheVariants.{PointerOverflow, BufferTooShort}
@@ -15,15 +16,15 @@ use Rattle.terms.specs.declared.head.Parts.TheVariants.{Zero, One, Two}
 use Rattle.terms.specs.declared.names.Renaming.{Renaming}
 use Rattle.terms.specs.Fitting.{are_bytes}
 use Rattle.terms.specs.Heads.{built, size_of, subjects_of, objects_of, binds_of, parts_of, head_of, objects_in, subject_in, front, renamed_head, head_renamed}
-use Rattle.terms.specs.Pointers.{function_of, settled, renamed, any_of, any_pointer, passes_255}
-use Rattle.terms.specs.Reading.{whole, scan, is_term, tree_of}
-use Rattle.terms.proofs.Pointed.{any_alone, any_zero, any_one, any_two, rename-built, parts_renamed, objects_renamed, size_renamed, length-renamed, overflow_any}
+use Rattle.terms.specs.Pointers.{function_of, settled, renamed, any_of, any_pointer, passes_255, clear_of, renamed_at_start}
+use Rattle.terms.specs.Reading.{Scanned, whole, wrapped, secondly, grown, scan, is_term, tree_of}
+use Rattle.terms.proofs.Pointed.{any_alone, rename-built, parts_renamed, objects_renamed, size_renamed, length-renamed, overflow_any}
 use Rattle.terms.proofs.Fitted.{fits_renamed}
-use Rattle.terms.proofs.Found.{length-built}
-use Rattle.terms.proofs.Parted.{headed, parts_zero, parts_one, parts_two}
+use Rattle.terms.proofs.Cleared.{parts_clear, clear_node, clear_some, own_clear}
+use Rattle.terms.proofs.Parted.{after_whole}
 use Rattle.terms.proofs.Readings.{term_scan, term_bytes, term_length, term_fits, fits_term}
 use Rattle.terms.proofs.Rows.{all_settled}
-use Rattle.terms.proofs.Scanned.{parts_written, length_front, write-built, head_opens}
+use Rattle.terms.proofs.Scanned.{parts_written, length_front, write-built, head_opens, scan_head}
 
 -- a row of pointers renamed where it stands
 abbrev row_put : (ℕ → ℕ) → ℕ → ℕ → List ℕ → List ℕ
@@ -99,48 +100,18 @@ module _ (r : Renaming) (d : ℕ) where
   unfolding passes_255
   front_clear h os subject objects = ap₂ front (head_clear h subject) (all_settled (function_of r d) os objects)
 
--- the parts of a node, none of whose pointers passes a test
-abbrev PartsClear : Parts → (ℕ → ℕ → Bool) → ℕ → Process → Process → Type 0
-PartsClear Zero test d t u = Unit {0}
-PartsClear One test d t u = any_pointer test d t ≡ false
-PartsClear Two test d t u = (any_pointer test d t ≡ false) × (any_pointer test d u ≡ false)
-
-module _ (test : ℕ → ℕ → Bool) (d : ℕ) (h : Head) (os : List ℕ) (t u : Process) (count : length os ≡ objects_of h) (clear : any_pointer test d (built h os t u) ≡ false) where
-  node_clear : (parts : Parts) → parts_of h ≡ parts →
-      (any_of (test d) (subject_in h) ≡ false) × (any_of (test d) os ≡ false) × PartsClear parts test (d + binds_of h) t u
-  node_clear Zero z =
-      let (subject, objects) = or_parts (any_of (test d) (subject_in h)) (any_of (test d) os) (sym (any_zero test d h os t u z count) ∙ clear) in
-      (subject, objects, tt)
-  node_clear One z =
-      let (own, below) = or_parts (any_of (test d) (subject_in h) || any_of (test d) os) (any_pointer test (d + binds_of h) t) (sym (any_one test d h os t u z count) ∙ clear) in
-      let (subject, objects) = or_parts (any_of (test d) (subject_in h)) (any_of (test d) os) own in
-      (subject, objects, below)
-  node_clear Two z =
-      let (own, below) = or_parts (any_of (test d) (subject_in h) || any_of (test d) os) (any_pointer test (d + binds_of h) t || any_pointer test (d + binds_of h) u) (sym (any_two test d h os t u z count) ∙ clear) in
-      let (subject, objects) = or_parts (any_of (test d) (subject_in h)) (any_of (test d) os) own in
-      (subject, objects, or_parts (any_pointer test (d + binds_of h) t) (any_pointer test (d + binds_of h) u) below)
-
 -- a node renamed, as it is written
 node_written : (r : Renaming) (d : ℕ) (h : Head) (os : List ℕ) (t u : Process) → length os ≡ objects_of h → (parts : Parts) → parts_of h ≡ parts →
-    any_of (passes_255 r d) (subject_in h) ≡ false → any_of (passes_255 r d) os ≡ false →
+    (any_of (passes_255 r d) (subject_in h) || any_of (passes_255 r d) os) ≡ false →
     write (rename (function_of r) d (built h os t u))
     ≡ front (renamed_head (settled (function_of r d)) h) (map (settled (function_of r d)) os) ++ parts_written parts (rename (function_of r) (d + binds_of h) t) (rename (function_of r) (d + binds_of h) u)
-node_written r d h os t u count parts z subject objects =
+node_written r d h os t u count parts z clear =
+    let (subject, objects) = or_parts (any_of (passes_255 r d) (subject_in h)) (any_of (passes_255 r d) os) clear in
     ap write (rename-built (function_of r) d h os t u)
     ∙ write-built (renamed_head (function_of r d) h) (map (function_of r d) os) (rename (function_of r) (d + binds_of h) t) (rename (function_of r) (d + binds_of h) u)
     (length-map os (function_of r d) ∙ count ∙ sym (objects_renamed (function_of r d) h))
     ∙ ap₂ (λ (ns : List ℕ) (k : Parts). ns ++ parts_written k (rename (function_of r) (d + binds_of h) t) (rename (function_of r) (d + binds_of h) u))
     (sym (front_clear r d h os subject objects)) (parts_renamed (function_of r d) h ∙ z)
-
--- what a walk does to the bytes that it is given
-abbrev pub Renames : Renaming → ℕ → List ℕ → ℕ → List ℕ → Type 0
-Renames r d ns n last =
-    (p : Process) (q : List ℕ) → scan ns ≡ whole p q → any_pointer (passes_255 r) d p ≡ false →
-    (n ≡ length (write p)) × (last ≡ write (rename (function_of r) d p) ++ q)
-
--- no head, so nothing to rename
-pub renames_none : (r : Renaming) (d : ℕ) (ns : List ℕ) (k n : ℕ) (last : List ℕ) → Err k ≡ head_of ns → Renames r d ns n last
-renames_none r d ns k n last is p q e clear = absurd (headed ns q p k is e)
 
 -- a write from a place to the end
 put_end : (n : ℕ) (xs ys : List ℕ) → put_mid n (length xs - n) xs ys ≡ take n xs ++ ys
@@ -148,14 +119,34 @@ put_end n xs ys =
     let long : length (drop n xs) ≤ length xs - n = omega (arith, length-drop n xs) in
     ap (λ (zs : List ℕ). take n xs ++ (ys ++ zs)) (drop_all (length xs - n) (drop n xs) long) ∙ ap (◌++◌ (take n xs)) (append-nil ys)
 
+-- what stands after a process stays where it stood
+past_renamed : (f : ℕ → ℕ → ℕ) (test : ℕ → ℕ → Bool) (d : ℕ) (ns : List ℕ) (n : ℕ) → Some n ≡ clear_of test d (scan ns) → drop n (renamed_at_start f d (scan ns)) ≡ drop n ns
+unfolding renamed_at_start
+past_renamed f test d ns n first =
+    let held = clear_some test d (scan ns) n first in
+    ap (λ (s : Scanned). drop n (renamed_at_start f d s)) held.is
+    ∙ drop_at (write (rename f d held.process)) held.rest n (length-renamed f d held.process ∙ sym held.long)
+    ∙ sym (ap (λ (k : ℕ). drop k ns) held.long ∙ after_whole ns held.rest held.process held.is)
+
+map_some : (f : ℕ → ℕ) (o : Option ℕ) → IsSome (option_map f o) → IsSome o
+map_some f (Some n) e = refl
+map_some f None e = e
+
+bind_some : (f : ℕ → Option ℕ) (o : Option ℕ) → IsSome (option_and_then f o) → IsSome o
+bind_some f (Some n) e = refl
+bind_some f None e = e
+
 -- a head whose own pointers were renamed, and then its parts
-module _ (r : Renaming) (d : ℕ) (ns : List ℕ) (h : Head) (is : Ok h ≡ head_of ns) (size binds : ℕ) (size_is : size ≡ size_of h) (binds_is : binds ≡ binds_of h)
-    (bs : List ℕ) (bs_is : bs ≡ head_renamed (settled (function_of r d)) h ns) where
+module _ (r : Renaming) (d : ℕ) (ns : List ℕ) (h : Head) (is : head_of ns ≡ Ok h) (size below : ℕ) (size_is : size ≡ size_of h) (below_is : below ≡ d + binds_of h)
+    (bs : List ℕ) (bs_is : bs ≡ head_renamed (settled (function_of r d)) h ns) (begins : IsSome (clear_of (passes_255 r) d (scan ns))) where
   abbrev start : List ℕ
   start = front (renamed_head (settled (function_of r d)) h) (map (settled (function_of r d)) (objects_in h ns))
 
+  abbrev part : List ℕ
+  part = take (length bs - size) (drop size bs)
+
   count : length (objects_in h ns) ≡ objects_of h
-  count = (head_opens ns h (sym is)).count
+  count = (head_opens ns h is).count
 
   length_start : length start ≡ size
   length_start =
@@ -163,117 +154,122 @@ module _ (r : Renaming) (d : ℕ) (ns : List ℕ) (h : Head) (is : Ok h ≡ head
       (length-map (objects_in h ns) (settled (function_of r d)) ∙ count ∙ sym (objects_renamed (settled (function_of r d)) h))
       ∙ size_renamed (settled (function_of r d)) h ∙ sym size_is
 
-  take_start : take size bs ≡ start
-  take_start = ap (take size) bs_is ∙ take_at start (drop (size_of h) ns) size length_start
-
   -- the parts stand where they stood
-  part_is : take (length bs - size) (drop size bs) ≡ drop (size_of h) ns
+  part_is : part ≡ drop (size_of h) ns
   part_is = take_rest bs size ∙ ap (drop size) bs_is ∙ drop_at start (drop (size_of h) ns) size length_start
 
-  pub renames_zero : Zero ≡ parts_of h → Renames r d ns size bs
-  renames_zero z p q e clear =
-      let (node, left) = parts_zero ns q h p is z e in
-      let (subject, objects, _) = node_clear (passes_255 r) d h (objects_in h ns) terminated terminated count (ap (any_pointer (passes_255 r) d) (sym node) ∙ clear) Zero (sym z) in
-      let long : length (write p) ≡ size_of h + 0 = ap (λ (t : Process). length (write t)) node ∙ length-built h (objects_in h ns) terminated terminated Zero (sym z) count in
-      let written : write (rename (function_of r) d p) ≡ start ++ [] = ap (λ (t : Process). write (rename (function_of r) d t)) node ∙ node_written r d h (objects_in h ns) terminated terminated count Zero (sym z) subject objects in
-      (omega arith, bs_is ∙ ap₂ ◌++◌ (sym (written ∙ append-nil start)) left)
+  step : clear_of (passes_255 r) d (scan ns) ≡ parts_clear (parts_of h) size (λ n. clear_of (passes_255 r) below (scan (drop n part)))
+  step = rw (part_is, size_is, below_is) (clear_node (passes_255 r) d ns h false is (sym (own_clear (passes_255 r) d ns h is begins)))
 
-  pub renames_one : One ≡ parts_of h → (n : ℕ) (last : List ℕ) → Renames r (d + binds) (take (length bs - size) (drop size bs)) n last →
-      Renames r d ns (size + n) (put_mid size (length bs - size) bs last)
-  renames_one z n last call p q e clear =
-      let (t, scanned, node) = parts_one ns q h p is z e in
-      let (subject, objects, below) = node_clear (passes_255 r) d h (objects_in h ns) t terminated count (ap (any_pointer (passes_255 r) d) (sym node) ∙ clear) One (sym z) in
-      let (size_first, last_is) = call t q (ap scan part_is ∙ scanned) (ap (λ (k : ℕ). any_pointer (passes_255 r) (d + k) t) binds_is ∙ below) in
-      let long : length (write p) ≡ size_of h + length (write t) = ap (λ (x : Process). length (write x)) node ∙ length-built h (objects_in h ns) t terminated One (sym z) count in
-      let written : write (rename (function_of r) d p) ≡ start ++ write (rename (function_of r) (d + binds) t)
-      = ap (λ (x : Process). write (rename (function_of r) d x)) node ∙ node_written r d h (objects_in h ns) t terminated count One (sym z) subject objects
-      ∙ ap (λ (k : ℕ). start ++ write (rename (function_of r) (d + k) t)) (sym binds_is) in (
-        omega arith,
-        put_end size bs last ∙ ap₂ ◌++◌ take_start last_is ∙ sym (append_assoc start (write (rename (function_of r) (d + binds) t)) q) ∙ ap (λ (x : List ℕ). x ++ q) (sym written),
-      )
+  pub one_begins : One ≡ parts_of h → IsSome (clear_of (passes_255 r) below (scan part))
+  one_begins z = map_some _ _ (rw (step, ← z) at begins)
 
-  pub renames_two : Two ≡ parts_of h → (n : ℕ) (last : List ℕ) → Renames r (d + binds) (take (length bs - size) (drop size bs)) n last →
-      (cs : List ℕ) → cs ≡ put_mid size (length bs - size) bs last →
-      (m : ℕ) (final : List ℕ) → Renames r (d + binds) (take (length cs - (size + n)) (drop (size + n) cs)) m final →
-      Renames r d ns (size + n + m) (put_mid (size + n) (length cs - (size + n)) cs final)
-  renames_two z n last call cs cs_is m final again p q e clear =
-      let (t, u, rest, scanned, second, node) = parts_two ns q h p is z e in
-      let (subject, objects, below) = node_clear (passes_255 r) d h (objects_in h ns) t u count (ap (any_pointer (passes_255 r) d) (sym node) ∙ clear) Two (sym z) in
-      let (size_first, last_is) = call t rest (ap scan part_is ∙ scanned) (ap (λ (k : ℕ). any_pointer (passes_255 r) (d + k) t) binds_is ∙ below.0) in
-      let one : List ℕ = write (rename (function_of r) (d + binds) t) in
-      let two : List ℕ = write (rename (function_of r) (d + binds) u) in
-      let so_far : cs ≡ (start ++ one) ++ rest = cs_is ∙ put_end size bs last ∙ ap₂ ◌++◌ take_start last_is ∙ sym (append_assoc start one rest) in
-      let past : length (start ++ one) ≡ size + n = omega (arith, length-append start one, length_start, length-renamed (function_of r) (d + binds) t) in
-      let next : take (length cs - (size + n)) (drop (size + n) cs) ≡ rest = take_rest cs (size + n) ∙ ap (drop (size + n)) so_far ∙ drop_at (start ++ one) rest (size + n) past in
-      let (size_second, final_is) = again u q (ap scan next ∙ second) (ap (λ (k : ℕ). any_pointer (passes_255 r) (d + k) u) binds_is ∙ below.1) in
-      let long : length (write p) ≡ size_of h + length (write t ++ write u) = ap (λ (x : Process). length (write x)) node ∙ length-built h (objects_in h ns) t u Two (sym z) count in
-      let written : write (rename (function_of r) d p) ≡ start ++ (one ++ two)
-      = ap (λ (x : Process). write (rename (function_of r) d x)) node ∙ node_written r d h (objects_in h ns) t u count Two (sym z) subject objects
-      ∙ ap (λ (k : ℕ). start ++ (write (rename (function_of r) (d + k) t) ++ write (rename (function_of r) (d + k) u))) (sym binds_is) in
-      let taken : take (size + n) cs ≡ start ++ one = ap (take (size + n)) so_far ∙ take_at (start ++ one) rest (size + n) past in (
-        omega (arith, length-append (write t) (write u)),
-        put_end (size + n) cs final ∙ ap₂ ◌++◌ taken final_is ∙ sym (append_assoc (start ++ one) two q)
-            ∙ ap (λ (x : List ℕ). x ++ q) (append_assoc start one two ∙ sym written),
-      )
+  pub two_begins : Two ≡ parts_of h → IsSome (clear_of (passes_255 r) below (scan part))
+  two_begins z = bind_some _ _ (rw (step, ← z) at begins)
 
--- the bytes past a head and its parts are no more than there are
-module _ (bs : List ℕ) (long size n : ℕ) (long_is : length bs ≡ long) (enough : size ≤ long) (room : n ≤ length (take (length bs - size) (drop size bs))) where
-  part_long : length (take (length bs - size) (drop size bs)) ≡ long - size
-  part_long = ap length (take_rest bs size) ∙ length-drop size bs ∙ ap (λ (k : ℕ). k - size) long_is
+  pub zero_size : Zero ≡ parts_of h → Some size ≡ clear_of (passes_255 r) d (scan ns)
+  zero_size z = rw (step, ← z)
 
-  pub room_one : size + n ≤ long
-  room_one = omega (arith, part_long)
+  pub one_size : One ≡ parts_of h → (n : ℕ) → Some n ≡ clear_of (passes_255 r) below (scan part) → Some (size + n) ≡ clear_of (passes_255 r) d (scan ns)
+  one_size z n first = rw (step, ← z, ← first)
 
-  pub room_two : (last cs : List ℕ) → length last ≡ length (take (length bs - size) (drop size bs)) → cs ≡ put_mid size (length bs - size) bs last →
-      (m : ℕ) → m ≤ length (take (length cs - (size + n)) (drop (size + n) cs)) → size + n + m ≤ long
-  room_two last cs last_long cs_is m more =
-      let whole_long : length cs ≡ length (take size bs) + length last = ap length (cs_is ∙ put_end size bs last) ∙ length-append (take size bs) last in
-      let left : length (take (length cs - (size + n)) (drop (size + n) cs)) ≡ length cs - (size + n) = ap length (take_rest cs (size + n)) ∙ length-drop (size + n) cs in
-      omega (arith, part_long, length-take-le size bs (omega arith))
+  placed : (t u : Process) (q xs : List ℕ) (parts : Parts) → parts_of h ≡ parts → scan ns ≡ whole (built h (objects_in h ns) t u) q →
+      xs ≡ parts_written parts (rename (function_of r) below t) (rename (function_of r) below u) ++ q → put_mid size (length bs - size) bs xs ≡ renamed_at_start (function_of r) d (scan ns)
+  unfolding renamed_at_start
+  placed t u q xs parts z found xs_is =
+      let written : write (rename (function_of r) d (built h (objects_in h ns) t u)) ≡ start ++ parts_written parts (rename (function_of r) below t) (rename (function_of r) below u)
+      = rw below_is (node_written r d h (objects_in h ns) t u count parts z (own_clear (passes_255 r) d ns h is begins)) in
+      put_end size bs xs ∙ ap₂ ◌++◌ (ap (take size) bs_is ∙ take_at start (drop (size_of h) ns) size length_start) xs_is
+      ∙ sym (append_assoc start (parts_written parts (rename (function_of r) below t) (rename (function_of r) below u)) q)
+      ∙ ap (λ (x : List ℕ). x ++ q) (sym written) ∙ sym (ap (renamed_at_start (function_of r) d) found)
 
--- what is answered, by the tests
-not-true : (b : Bool) → true ≡ not b → b ≡ false
-not-true true e = e
-not-true false e = refl
+  grown_is : (parts : Parts) → parts ≡ parts_of h → scan ns ≡ grown scan (built h (objects_in h ns)) parts part
+  grown_is parts z = rw (part_is, z) (scan_head ns h is)
 
-not-false : (b : Bool) → false ≡ not b → b ≡ true
-not-false true e = refl
-not-false false e = e
+  pub zero_renamed : Zero ≡ parts_of h → put_mid size (length bs - size) bs part ≡ renamed_at_start (function_of r) d (scan ns)
+  unfolding grown
+  zero_renamed z = placed terminated terminated part part Zero (sym z) (grown_is Zero z) refl
 
-module _ (f : ℕ → ℕ → ℕ) (p : Process) (room : ℕ) where
-  pub renaming_declined : true ≡ not (are_bytes (write (rename f 0 p))) → within room (renamed f p) ≡ Err (fault PointerOverflow 0)
+  pub one_renamed : One ≡ parts_of h → (n : ℕ) → Some n ≡ clear_of (passes_255 r) below (scan part) → (last : List ℕ) → last ≡ renamed_at_start (function_of r) below (scan part) →
+      put_mid size (length bs - size) bs last ≡ renamed_at_start (function_of r) d (scan ns)
+  unfolding grown wrapped renamed_at_start
+  one_renamed z n first last last_is =
+      let held = clear_some (passes_255 r) below (scan part) n first in
+      placed held.process terminated held.rest last One (sym z) (grown_is One z ∙ ap (wrapped (λ t. built h (objects_in h ns) t terminated)) held.is)
+      (last_is ∙ ap (renamed_at_start (function_of r) below) held.is)
+
+  module _ (z : Two ≡ parts_of h) (n : ℕ) (first : Some n ≡ clear_of (passes_255 r) below (scan part)) (last : List ℕ) (last_is : last ≡ renamed_at_start (function_of r) below (scan part)) where
+    abbrev more : List ℕ
+    more = take (length last - n) (drop n last)
+
+    more_is : more ≡ drop n part
+    more_is = take_rest last n ∙ ap (drop n) last_is ∙ past_renamed (function_of r) (passes_255 r) below part n first
+
+    pub second_begins : IsSome (clear_of (passes_255 r) below (scan more))
+    second_begins = rw more_is (map_some _ _ (rw (step, ← z, ← first) at begins))
+
+    pub two_size : (m : ℕ) → Some m ≡ clear_of (passes_255 r) below (scan more) → Some (size + n + m) ≡ clear_of (passes_255 r) d (scan ns)
+    two_size m second = rw (step, ← z, ← first, ← more_is, ← second)
+
+    pub two_renamed : (m : ℕ) → Some m ≡ clear_of (passes_255 r) below (scan more) → (final : List ℕ) → final ≡ renamed_at_start (function_of r) below (scan more) →
+        put_mid size (length bs - size) bs (put_mid n (length last - n) last final) ≡ renamed_at_start (function_of r) d (scan ns)
+    unfolding grown secondly wrapped renamed_at_start
+    two_renamed m second final final_is =
+        let one = clear_some (passes_255 r) below (scan part) n first in
+        let two = clear_some (passes_255 r) below (scan more) m second in
+        let after : one.rest ≡ more = sym (more_is ∙ ap (λ (k : ℕ). drop k part) one.long ∙ after_whole part one.rest one.process one.is) in
+        let there : take n last ≡ write (rename (function_of r) below one.process)
+        = ap (take n) (last_is ∙ ap (renamed_at_start (function_of r) below) one.is)
+        ∙ take_at (write (rename (function_of r) below one.process)) one.rest n (length-renamed (function_of r) below one.process ∙ sym one.long) in
+        placed one.process two.process two.rest (put_mid n (length last - n) last final) Two (sym z)
+        (grown_is Two z ∙ ap (secondly scan (built h (objects_in h ns))) one.is ∙ ap (wrapped (built h (objects_in h ns) one.process)) (ap scan after ∙ two.is))
+        (put_end n last final ∙ ap₂ ◌++◌ there (final_is ∙ ap (renamed_at_start (function_of r) below) two.is)
+        ∙ sym (append_assoc (write (rename (function_of r) below one.process)) (write (rename (function_of r) below two.process)) two.rest))
+
+-- a term whose renaming is refused, for a pointer or for room, or written
+module _ (ns : List ℕ) (term : is_term ns ≡ true) (r : Renaming) where
+  abbrev next : List ℕ
+  next = write (rename (function_of r) 0 (tree_of ns))
+
+  pub renaming_declined : true ≡ not (are_bytes next) → (room : ℕ) → within room (renamed (function_of r) (tree_of ns)) ≡ Err (fault PointerOverflow 0)
   unfolding renamed
-  renaming_declined e = within_err room (renamed f p) (fault PointerOverflow 0) (cond-false (are_bytes (write (rename f 0 p))) _ _ (not-true (are_bytes (write (rename f 0 p))) e))
+  renaming_declined e room = within_err room (renamed (function_of r) (tree_of ns)) (fault PointerOverflow 0) (cond-false (are_bytes next) _ _ (not-true (are_bytes next) (sym e)))
 
-  renamed_ok : false ≡ not (are_bytes (write (rename f 0 p))) → renamed f p ≡ Ok (write (rename f 0 p))
-  unfolding renamed
-  renamed_ok e = cond-true (are_bytes (write (rename f 0 p))) _ _ (not-false (are_bytes (write (rename f 0 p))) e)
+  module _ (fine : false ≡ not (are_bytes next)) where
+    pub length_next : length next ≡ length ns
+    length_next = length-renamed (function_of r) 0 (tree_of ns) ∙ term_length ns term
 
-  pub renaming_short : false ≡ not (are_bytes (write (rename f 0 p))) → room < length (write p) → within room (renamed f p) ≡ Err (fault BufferTooShort 0)
-  renaming_short e short = ap (within room) (renamed_ok e) ∙ within_short room (write (rename f 0 p)) (omega (arith, length-renamed f 0 p))
+    renamed_ok : renamed (function_of r) (tree_of ns) ≡ Ok next
+    unfolding renamed
+    renamed_ok = cond-true (are_bytes next) _ _ (not-false (are_bytes next) (sym fine))
 
-  pub renaming_fits : false ≡ not (are_bytes (write (rename f 0 p))) → length (write p) ≤ room → within room (renamed f p) ≡ Ok (write (rename f 0 p))
-  renaming_fits e enough = ap (within room) (renamed_ok e) ∙ within_fits room (write (rename f 0 p)) (omega (arith, length-renamed f 0 p))
+    pub renaming_short : (room : ℕ) → room < length ns → within room (renamed (function_of r) (tree_of ns)) ≡ Err (fault BufferTooShort 0)
+    renaming_short room short = ap (within room) renamed_ok ∙ within_short room next (omega (arith, length_next))
 
--- the bytes of a term
-module _ (ns : List ℕ) (term : is_term ns ≡ true) where
-  -- copied to the start of a buffer and renamed there
-  pub renames_copied : (r : Renaming) (out copied last : List ℕ) (size n : ℕ) → false ≡ not (are_bytes (write (rename (function_of r) 0 (tree_of ns)))) → copied ≡ ns → size ≡ length ns →
-      Renames r 0 (take size (copied ++ drop size out)) n last →
-      last ++ drop size (copied ++ drop size out) ≡ write (rename (function_of r) 0 (tree_of ns)) ++ drop (length (write (rename (function_of r) 0 (tree_of ns)))) out
-  renames_copied r out copied last size n fine copied_is size_is call =
-      let long : length copied ≡ size = ap length copied_is ∙ sym size_is in
-      let there : take size (copied ++ drop size out) ≡ ns = take_at copied (drop size out) size long ∙ copied_is in
-      let bytes : are_bytes (write (rename (function_of r) 0 (tree_of ns))) ≡ true = not-false (are_bytes (write (rename (function_of r) 0 (tree_of ns)))) fine in
-      let clear : any_pointer (passes_255 r) 0 (tree_of ns) ≡ false = overflow_any r (tree_of ns) (term_bytes ns term) ∙ ap not bytes in
-      let (_, last_is) = call (tree_of ns) [] (ap scan there ∙ term_scan ns term) clear in
-      let wide : size ≡ length (write (rename (function_of r) 0 (tree_of ns))) = omega (arith, length-renamed (function_of r) 0 (tree_of ns), term_length ns term) in
-      ap₂ ◌++◌ (last_is ∙ append-nil (write (rename (function_of r) 0 (tree_of ns)))) (drop_at copied (drop size out) size long ∙ ap (λ (k : ℕ). drop k out) wide)
+    pub renaming_fits : (room : ℕ) → length ns ≤ room → within room (renamed (function_of r) (tree_of ns)) ≡ Ok next
+    renaming_fits room enough = ap (within room) renamed_ok ∙ within_fits room next (omega (arith, length_next))
 
-  -- what is then written is a term
-  pub renamed_term : (f : ℕ → ℕ → ℕ) (n : ℕ) (out rest : List ℕ) → false ≡ not (are_bytes (write (rename f 0 (tree_of ns)))) → n ≡ length ns →
-      out ≡ write (rename f 0 (tree_of ns)) ++ rest → is_term (take n out) ≡ true
-  renamed_term f n out rest fine long is =
-      let size : length (write (rename f 0 (tree_of ns))) ≡ n = omega (arith, length-renamed f 0 (tree_of ns), term_length ns term) in
-      ap is_term (ap (take n) is ∙ take_at (write (rename f 0 (tree_of ns))) rest n size)
-      ∙ fits_term (rename f 0 (tree_of ns)) (fits_renamed f (tree_of ns) (term_fits ns term) (not-false (are_bytes (write (rename f 0 (tree_of ns)))) fine))
+    -- the walk over a copy meets no pointer that would pass 255, and renames all
+    module _ (copied : List ℕ) (copied_is : copied ≡ ns) where
+      clear_copied : clear_of (passes_255 r) 0 (scan copied) ≡ Some (length next)
+      unfolding clear_of
+      clear_copied =
+          let clear : any_pointer (passes_255 r) 0 (tree_of ns) ≡ false = overflow_any r (tree_of ns) (term_bytes ns term) ∙ sym fine in
+          ap (clear_of (passes_255 r) 0) (ap scan copied_is ∙ term_scan ns term)
+          ∙ ap₂ (λ (b : Bool) (n : ℕ). cond b None (Some n)) clear (sym (length-renamed (function_of r) 0 (tree_of ns)))
+
+      pub copied_begins : IsSome (clear_of (passes_255 r) 0 (scan copied))
+      copied_begins = ap is_some clear_copied
+
+      pub copied_size : (n : ℕ) → Some n ≡ clear_of (passes_255 r) 0 (scan copied) → n ≡ length next
+      copied_size n e = let told : Some n ≡ Some (length next) = e ∙ clear_copied in cc
+
+      pub copied_renamed : (last : List ℕ) → last ≡ renamed_at_start (function_of r) 0 (scan copied) → last ≡ next
+      unfolding renamed_at_start
+      copied_renamed last e = e ∙ ap (renamed_at_start (function_of r) 0) (ap scan copied_is ∙ term_scan ns term) ∙ append-nil next
+
+    -- what is then written is a term
+    pub renamed_term : (n : ℕ) (rest : List ℕ) → n ≡ length next → is_term (take n (next ++ rest)) ≡ true
+    renamed_term n rest n_is =
+        ap is_term (take_at next rest n (sym n_is))
+        ∙ fits_term (rename (function_of r) 0 (tree_of ns)) (fits_renamed (function_of r) (tree_of ns) (term_fits ns term) (not-false (are_bytes next) (sym fine)))

@@ -1,5 +1,5 @@
 -- What a walk over a term's pointers does and asks.
-use Rattle.std.specs.Prelude.{ℕ, suc, ◌+◌, ◌^◌, ◌<◌, ◌≡◌, Bool, false, cond, ◌||◌, List, [], ◌∷◌, length, Some, None, Ok, Err, Option, Result, ◌==◌, nat_lt}
+use Rattle.std.specs.Prelude.{ℕ, suc, ◌+◌, ◌^◌, ◌<◌, ◌≡◌, Bool, false, cond, ◌||◌, List, [], ◌∷◌, ◌++◌, length, Some, None, Ok, Err, Option, Result, ◌==◌, nat_lt}
 use Rattle.calculus.specs.Trees.{Process, terminated, output, input, choice, parallel, restriction, replication, write}
 use Rattle.calculus.specs.Names.{rename, raise, lower, exchange, send}
 use Rattle.refusal.specs.declared.Fault.{Fault}
@@ -55,3 +55,8 @@ Tests post test = (depth pointer : ℕ) (answer : Bool) → depth < 2 ^ 64 → p
 unfoldable pub clear_of : (ℕ → ℕ → Bool) → ℕ → Scanned → Option ℕ
 clear_of test depth (whole p ns) = cond (any_pointer test depth p) None (Some (length (write p)))
 clear_of test depth (stuck ns) = None
+
+-- the bytes once the process at their start is renamed
+unfoldable pub renamed_at_start : (ℕ → ℕ → ℕ) → ℕ → Scanned → List ℕ
+renamed_at_start f depth (whole p ns) = write (rename f depth p) ++ ns
+renamed_at_start f depth (stuck ns) = ns

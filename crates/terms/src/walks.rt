@@ -1,11 +1,11 @@
 // Walks over the pointers of a term: is one there, and what becomes of all.
-ghost use Rattle.std.specs.Prelude.{◌≡◌, ℕ, ◌+◌, ◌*◌, ◌^◌, ◌<◌, ◌≤◌, Bool, true, false, not, ◌||◌, List, ◌++◌, length, take, IfSome, IfOk, Ok};
+ghost use Rattle.std.specs.Prelude.{◌≡◌, ℕ, ◌+◌, ◌*◌, ◌^◌, ◌<◌, ◌≤◌, Bool, true, false, not, ◌||◌, List, ◌++◌, length, take, IfSome, IsSome, Some, IfOk, Ok};
 ghost use Rattle.calculus.specs.Trees.{Process, write};
 ghost use Rattle.calculus.specs.Names.{rename, free};
 ghost use Rattle.refusal.specs.Writes.{answered, left, within};
 ghost use Rattle.terms.specs.Fitting.{are_bytes};
 ghost use Rattle.terms.specs.Heads.{head_of, subject_in, objects_in, head_renamed};
-ghost use Rattle.terms.specs.Pointers.{function_of, settled, renamed, any_of, any_pointer, passes_255, clear_of, Tests};
+ghost use Rattle.terms.specs.Pointers.{function_of, settled, renamed, any_of, any_pointer, passes_255, clear_of, renamed_at_start, Tests};
 ghost use Rattle.terms.specs.Reading.{scan, whole, is_term};
 ghost use Rattle.terms.specs.Views.{bytes_of, tree};
 
@@ -61,22 +61,26 @@ fn rename_head(renaming: &Renaming<'_>, depth: usize, head: Head, bytes: &mut [u
 
 // Renames every pointer of the process at the start, none of which would pass 255, and answers how many bytes it takes.
 fn rename_in_place(renaming: &Renaming<'_>, depth: usize, bytes: &mut [u8]) -> usize
-    requires { depth + 8 * length bytes.old < 2 ^ 32 }
+    requires clear { IsSome (clear_of (passes_255 renaming.now) depth (scan bytes.old)) }
+    requires countable { depth + 8 * length bytes.old < 2 ^ 32 }
+    ensures size { Some result ≡ clear_of (passes_255 renaming.now) depth (scan bytes.old) }
     ensures room { result ≤ length bytes.old }
-    ensures renamed { (p : Process) (ns : List ℕ) → scan bytes.old ≡ whole p ns → any_pointer (passes_255 renaming.now) depth p ≡ false → (result ≡ length (write p)) × (bytes.new ≡ write (rename (function_of renaming.now) depth p) ++ ns) }
+    ensures renamed { bytes.new ≡ renamed_at_start (function_of renaming.now) depth (scan bytes.old) }
 {
     let Ok(head) = Head::read(bytes) else {
-        return 0;
+        unreachable()
     };
     let size = head.size();
     rename_head(renaming, depth, head, bytes);
     let below = depth + head.binds();
+    let rest = &mut bytes[size..];
     match head.parts() {
         Parts::Zero => size,
-        Parts::One => size + rename_in_place(renaming, below, &mut bytes[size..]),
+        Parts::One => size + rename_in_place(renaming, below, rest),
         Parts::Two => {
-            let first = size + rename_in_place(renaming, below, &mut bytes[size..]);
-            first + rename_in_place(renaming, below, &mut bytes[first..])
+            let first = rename_in_place(renaming, below, rest);
+            let second = rename_in_place(renaming, below, &mut rest[first..]);
+            size + first + second
         }
     }
 }
@@ -113,8 +117,8 @@ impl Term<'_> {
         if out.len() < size {
             return Err(Refusal::BufferTooShort.at(0));
         }
-        out[0..size].copy_from_slice(bytes);
-        let _size = rename_in_place(&renaming, 0, &mut out[0..size]);
-        Ok(size)
+        let start = &mut out[0..size];
+        start.copy_from_slice(bytes);
+        Ok(rename_in_place(&renaming, 0, start))
     }
 }

@@ -1,36 +1,41 @@
-use Rattle.std.proofs.Common.{length, refl, arith}
-use Rattle.terms.proofs.Renames.{renames_none, renames_zero, renames_one, renames_two, room_one, room_two}
+use Rattle.std.proofs.Common.{◌+◌, sym, ap, rules}
+use Rattle.terms.proofs.Cleared.{headed_clear}
+use Rattle.terms.proofs.Renames.{one_begins, two_begins, second_begins, zero_size, one_size, two_size, zero_renamed, one_renamed, two_renamed}
 use Rattle.terms.proofs.walks.+rename_in_place.Goals as goal
 
-pub returns-in_default : goal.returns-in_default
-returns-in_default t c = record { room = omega arith; renamed = renames_none c.args.renaming.now c.args.depth c.args.bytes.now c.in_default.field-0 0 _ c.in_default.ensures.answer }
+pub unreachable-requires : goal.unreachable-requires
+unreachable-requires t c = headed_clear _ _ _ _ c.in_default.ensures.answer c.requires.clear
 
-pub returns-in-Zero : goal.returns-in-Zero
-returns-in-Zero t c =
-    record {
-      room = omega (arith, c.in-Ok.ensures.within);
-      renamed = renames_zero c.args.renaming.now c.args.depth c.args.bytes.now c.in-Ok.head c.in-Ok.ensures.answer c.size-size.result c.binds.result
-          c.size-size.ensures c.binds.ensures c.rename_head.new.bytes c.rename_head.ensures c.in-Zero.ensures;
-    }
+pub rename_in_place-requires : goal.rename_in_place-requires
+rename_in_place-requires t c =
+    let clear = one_begins _ _ _ _ (sym c.in-Ok.ensures.answer) _ _ c.size-size.ensures (ap (◌+◌ c.args.depth) c.binds.ensures) _ c.rename_head.ensures c.requires.clear c.in-One.ensures in
+    (search rules, (clear, search rules))
 
-pub returns-in-One : goal.returns-in-One
-returns-in-One t c =
-    record {
-      room = room_one c.rename_head.new.bytes (length c.args.bytes.now) c.size-size.result c.rename_in_place.result c.rename_head.auto.bytes
-          (omega (arith, c.in-Ok.ensures.within)) c.rename_in_place.ensures.room;
-      renamed = renames_one c.args.renaming.now c.args.depth c.args.bytes.now c.in-Ok.head c.in-Ok.ensures.answer c.size-size.result c.binds.result
-          c.size-size.ensures c.binds.ensures c.rename_head.new.bytes c.rename_head.ensures c.in-One.ensures
-          c.rename_in_place.result c.rename_in_place.new.bytes c.rename_in_place.ensures.renamed;
-    }
+pub rename_in_place-first-requires : goal.rename_in_place-first-requires
+rename_in_place-first-requires t c =
+    let clear = two_begins _ _ _ _ (sym c.in-Ok.ensures.answer) _ _ c.size-size.ensures (ap (◌+◌ c.args.depth) c.binds.ensures) _ c.rename_head.ensures c.requires.clear c.in-Two.ensures in
+    (search rules, (clear, search rules))
 
-pub returns-in-Two : goal.returns-in-Two
-returns-in-Two t c =
-    record {
-      room = room_two c.rename_head.new.bytes (length c.args.bytes.now) c.size-size.result c.rename_in_place-in-Two.result c.rename_head.auto.bytes
-          (omega (arith, c.in-Ok.ensures.within)) c.rename_in_place-in-Two.ensures.room c.rename_in_place-in-Two.new.bytes _ c.rename_in_place-in-Two.auto.bytes refl
-          c.rename_in_place-in-Two-2.result c.rename_in_place-in-Two-2.ensures.room;
-      renamed = renames_two c.args.renaming.now c.args.depth c.args.bytes.now c.in-Ok.head c.in-Ok.ensures.answer c.size-size.result c.binds.result
-          c.size-size.ensures c.binds.ensures c.rename_head.new.bytes c.rename_head.ensures c.in-Two.ensures
-          c.rename_in_place-in-Two.result c.rename_in_place-in-Two.new.bytes c.rename_in_place-in-Two.ensures.renamed _ refl
-          c.rename_in_place-in-Two-2.result c.rename_in_place-in-Two-2.new.bytes c.rename_in_place-in-Two-2.ensures.renamed;
-    }
+pub rename_in_place-second-requires : goal.rename_in_place-second-requires
+rename_in_place-second-requires t c =
+    let clear = second_begins _ _ _ _ (sym c.in-Ok.ensures.answer) _ _ c.size-size.ensures (ap (◌+◌ c.args.depth) c.binds.ensures) _ c.rename_head.ensures c.requires.clear c.in-Two.ensures _ c.rename_in_place-first.ensures.size _ c.rename_in_place-first.ensures.renamed in
+    (search rules, (clear, search rules))
+
+pub returns-in-Zero-clause-size : goal.returns-in-Zero-clause-size
+returns-in-Zero-clause-size t c = zero_size _ _ _ _ (sym c.in-Ok.ensures.answer) _ _ c.size-size.ensures (ap (◌+◌ c.args.depth) c.binds.ensures) _ c.rename_head.ensures c.requires.clear c.in-Zero.ensures
+
+pub returns-in-Zero-clause-renamed : goal.returns-in-Zero-clause-renamed
+returns-in-Zero-clause-renamed t c = zero_renamed _ _ _ _ (sym c.in-Ok.ensures.answer) _ _ c.size-size.ensures (ap (◌+◌ c.args.depth) c.binds.ensures) _ c.rename_head.ensures c.requires.clear c.in-Zero.ensures
+
+pub returns-in-One-clause-size : goal.returns-in-One-clause-size
+returns-in-One-clause-size t c = one_size _ _ _ _ (sym c.in-Ok.ensures.answer) _ _ c.size-size.ensures (ap (◌+◌ c.args.depth) c.binds.ensures) _ c.rename_head.ensures c.requires.clear c.in-One.ensures _ c.rename_in_place.ensures.size
+
+pub returns-in-One-clause-renamed : goal.returns-in-One-clause-renamed
+returns-in-One-clause-renamed t c = one_renamed _ _ _ _ (sym c.in-Ok.ensures.answer) _ _ c.size-size.ensures (ap (◌+◌ c.args.depth) c.binds.ensures) _ c.rename_head.ensures c.requires.clear c.in-One.ensures _ c.rename_in_place.ensures.size _ c.rename_in_place.ensures.renamed
+
+pub returns-in-Two-clause-size : goal.returns-in-Two-clause-size
+returns-in-Two-clause-size t c = two_size _ _ _ _ (sym c.in-Ok.ensures.answer) _ _ c.size-size.ensures (ap (◌+◌ c.args.depth) c.binds.ensures) _ c.rename_head.ensures c.requires.clear c.in-Two.ensures _ c.rename_in_place-first.ensures.size _ c.rename_in_place-first.ensures.renamed _ c.rename_in_place-second.ensures.size
+
+pub returns-in-Two-clause-renamed : goal.returns-in-Two-clause-renamed
+returns-in-Two-clause-renamed t c =
+    two_renamed _ _ _ _ (sym c.in-Ok.ensures.answer) _ _ c.size-size.ensures (ap (◌+◌ c.args.depth) c.binds.ensures) _ c.rename_head.ensures c.requires.clear c.in-Two.ensures _ c.rename_in_place-first.ensures.size _ c.rename_in_place-first.ensures.renamed _ c.rename_in_place-second.ensures.size _ c.rename_in_place-second.ensures.renamed
