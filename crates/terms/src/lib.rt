@@ -6,6 +6,7 @@ mod head;
 mod names;
 mod node;
 mod reading;
+mod renamer;
 mod stretch;
 mod term;
 mod walks;

@@ -1,7 +1,7 @@
 // Pointers are tested and renamed.
-ghost use Rattle.std.specs.Prelude.{◌≡◌, ℕ, ◌<◌, ◌≤◌, Bool, map};
+ghost use Rattle.std.specs.Prelude.{◌≡◌, ℕ, ◌<◌, ◌≤◌, Bool};
 ghost use Rattle.calculus.specs.Names.{exchange, send};
-ghost use Rattle.terms.specs.Pointers.{function_of, settled, is_counted, any_of, Tests};
+ghost use Rattle.terms.specs.Pointers.{function_of, is_counted, any_of, Tests};
 
 // What is done to every pointer of a term.
 #[derive(Clone, Copy, PartialEq, Eq, Debug)]
@@ -32,14 +32,6 @@ impl Renaming<'_> {
             Renaming::Exchange => traded(depth, pointer),
             Renaming::Send(objects) => sent(objects, depth, pointer),
         }
-    }
-
-    // What becomes of a pointer, which stays where it would pass 255.
-    #[tactic(auto, unfolding(crate::specs::Pointers::settled))]
-    fn settle(&self, depth: usize, pointer: u8) -> u8
-        ensures { result ≡ settled (function_of self.now depth) pointer }
-    {
-        u8::try_from(self.apply(depth, pointer)).unwrap_or(pointer)
     }
 }
 
@@ -88,13 +80,4 @@ pub(crate) fn any_passes<F: Fn(usize, u8) -> bool>(test: &F, depth: usize, point
     ensures { (known : ℕ → ℕ → Bool) → Tests (F.post test.now) known → result ≡ any_of (known depth) pointers.now }
 {
     pointers.iter().any(|pointer| test(depth, *pointer))
-}
-
-// Renames a row of pointers, all at one depth; one that would pass 255 stays.
-pub(crate) fn rename_row(renaming: &Renaming<'_>, depth: usize, pointers: &mut [u8])
-    ensures { pointers.new ≡ map (settled (function_of renaming.now depth)) pointers.old }
-{
-    for pointer in pointers.iter_mut() {
-        *pointer = renaming.settle(depth, *pointer);
-    }
 }

@@ -10,7 +10,8 @@ ghost use Rattle.terms.specs.Reading.{scan, whole, is_term};
 ghost use Rattle.terms.specs.Views.{bytes_of, tree};
 
 use crate::head::{Head, Parts};
-use crate::names::{Renaming, any_passes, is_counted, rename_row};
+use crate::names::{Renaming, any_passes, is_counted};
+use crate::renamer::Renamer;
 use crate::stretch::Stretch;
 use crate::term::Term;
 use refusal::{Fault, Refusal};
@@ -49,42 +50,6 @@ fn clear<F: Fn(usize, u8) -> bool>(stretch: &Stretch<'_>, test: &F) -> Option<us
     }
 }
 
-// Renames the pointers of the head at the start itself; one that would pass 255 stays.
-fn rename_head(renaming: &Renaming<'_>, depth: usize, head: Head, bytes: &mut [u8])
-    requires { head_of bytes.old ≡ Ok head }
-    ensures { bytes.new ≡ head_renamed (settled (function_of renaming.now depth)) head bytes.old }
-{
-    let size = head.size();
-    rename_row(renaming, depth, &mut bytes[1..1 + head.subjects()]);
-    rename_row(renaming, depth, &mut bytes[size - head.objects()..size]);
-}
-
-// Renames every pointer of the process at the start, none of which would pass 255, and answers how many bytes it takes.
-fn rename_in_place(renaming: &Renaming<'_>, depth: usize, bytes: &mut [u8]) -> usize
-    requires clear { IsSome (clear_of (passes_255 renaming.now) depth (scan bytes.old)) }
-    requires countable { depth + 8 * length bytes.old < 2 ^ 32 }
-    ensures size { Some result ≡ clear_of (passes_255 renaming.now) depth (scan bytes.old) }
-    ensures room { result ≤ length bytes.old }
-    ensures renamed { bytes.new ≡ renamed_at_start (function_of renaming.now) depth (scan bytes.old) }
-{
-    let Ok(head) = Head::read(bytes) else {
-        unreachable()
-    };
-    let size = head.size();
-    rename_head(renaming, depth, head, bytes);
-    let below = depth + head.binds();
-    let rest = &mut bytes[size..];
-    match head.parts() {
-        Parts::Zero => size,
-        Parts::One => size + rename_in_place(renaming, below, rest),
-        Parts::Two => {
-            let first = rename_in_place(renaming, below, rest);
-            let second = rename_in_place(renaming, below, &mut rest[first..]);
-            size + first + second
-        }
-    }
-}
-
 impl Term<'_> {
     // Whether a pointer, as the top of the term counts it, occurs free.
     pub fn has_free(&self, pointer: u8) -> bool
@@ -119,6 +84,7 @@ impl Term<'_> {
         }
         let start = &mut out[0..size];
         start.copy_from_slice(bytes);
-        Ok(rename_in_place(&renaming, 0, start))
+        let renamer = Renamer { renaming, depth: 0 };
+        Ok(renamer.rename(start))
     }
 }

@@ -14,8 +14,8 @@ returns-then-out-size c =
     let is = renaming_short c.args.self.now.bytes.now c.args.self.now.whole c.args.renaming c.if-overflows.ensures (length c.args.out.now) (omega (arith, ap length c.bytes-bytes.ensures.bytes)) in
     record { answer = ap Err c.at-then-out-size.ensures ∙ sym (answered_declined _ _ is); buffer = sym (left_declined _ _ is c.args.out.now); size = tt; term = tt }
 
-pub rename_in_place-requires : goal.rename_in_place-requires
-rename_in_place-requires c =
+pub rename-requires : goal.rename-requires
+rename-requires c =
     let copied = c.copy_from_slice.ensures.after ∙ c.bytes-bytes.ensures.bytes in
     record { clear = copied_begins c.args.self.now.bytes.now c.args.self.now.whole c.args.renaming c.if-overflows.ensures _ copied; countable = omega (arith, ap length copied, term_short c.args.self.now.bytes.now c.args.self.now.whole) }
 
@@ -24,8 +24,8 @@ returns c =
     let copied = c.copy_from_slice.ensures.after ∙ c.bytes-bytes.ensures.bytes in
     let same = ap length c.bytes-bytes.ensures.bytes in
     let long = length_next c.args.self.now.bytes.now c.args.self.now.whole c.args.renaming c.if-overflows.ensures in
-    let size = copied_size c.args.self.now.bytes.now c.args.self.now.whole c.args.renaming c.if-overflows.ensures _ copied c.rename_in_place.result c.rename_in_place.ensures.size in
-    let last = copied_renamed c.args.self.now.bytes.now c.args.self.now.whole c.args.renaming c.if-overflows.ensures _ copied c.rename_in_place.new.bytes c.rename_in_place.ensures.renamed in
+    let size = copied_size c.args.self.now.bytes.now c.args.self.now.whole c.args.renaming c.if-overflows.ensures _ copied c.rename.result c.rename.ensures.size in
+    let last = copied_renamed c.args.self.now.bytes.now c.args.self.now.whole c.args.renaming c.if-overflows.ensures _ copied c.rename.new.bytes c.rename.ensures.renamed in
     let is = renaming_fits c.args.self.now.bytes.now c.args.self.now.whole c.args.renaming c.if-overflows.ensures (length c.args.out.now) (omega arith) in
     record {
       answer = ap Ok size ∙ sym (answered_written _ _ is);

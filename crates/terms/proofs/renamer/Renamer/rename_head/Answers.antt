@@ -2,7 +2,7 @@ use Rattle.std.proofs.Common.{arith}
 use Rattle.terms.specs.Pointers.{function_of, settled}
 use Rattle.terms.proofs.Renames.{rows_renamed}
 use Rattle.terms.proofs.Scanned.{head_size}
-use Rattle.terms.proofs.walks.rename_head.Goals as goal
+use Rattle.terms.proofs.renamer.Renamer.rename_head.Goals as goal
 
 pub slice_bounds-rename_row-end : goal.slice_bounds-rename_row-end
 slice_bounds-rename_row-end c =
@@ -16,5 +16,5 @@ slice_bounds-rename_row-end-2 c =
 
 pub returns : goal.returns
 returns c =
-    rows_renamed (settled (function_of c.args.renaming.now c.args.depth)) c.args.head c.args.bytes.now c.requires c.size-size.result c.subjects.result c.objects.result
+    rows_renamed (settled (function_of c.args.self.now.renaming c.args.self.now.depth)) c.args.head c.args.bytes.now c.requires c.size-size.result c.subjects.result c.objects.result
     c.size-size.ensures c.subjects.ensures c.objects.ensures c.rename_row.new.pointers c.rename_row-2.new.pointers c.rename_row.ensures c.rename_row-2.ensures

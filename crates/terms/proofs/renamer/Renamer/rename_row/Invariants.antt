@@ -1,8 +1,8 @@
 use Rattle.std.proofs.Common.{◌≡◌, ◌++◌, map, take, drop}
 use Rattle.terms.specs.Pointers.{function_of, settled}
-use Rattle.terms.proofs.names.rename_row.Given as goal
+use Rattle.terms.proofs.renamer.Renamer.rename_row.Given as goal
 
 abbrev pub invariant-loop-pointer : goal.invariant-loop-pointer
 invariant-loop-pointer l =
     l.pointers
-    ≡ map (settled (function_of l.renaming l.depth)) (take l.pointer-index l.initial.pointers) ++ drop l.pointer-index l.initial.pointers
+    ≡ map (settled (function_of l.self.renaming l.self.depth)) (take l.pointer-index l.initial.pointers) ++ drop l.pointer-index l.initial.pointers

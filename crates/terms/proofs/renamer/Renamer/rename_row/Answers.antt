@@ -2,14 +2,14 @@ use Rattle.std.proofs.Common.{ℕ, List, ◌++◌, map, get_or, set, refl, ap, �
 use Rattle.std.proofs.lemmas.List.{append-nil, take_all, drop_all, get_or_default}
 use Rattle.std.proofs.lemmas.List.Edits.{map_over_more}
 use Rattle.terms.specs.Pointers.{function_of, settled}
-use Rattle.terms.proofs.names.rename_row.Goals as goal
+use Rattle.terms.proofs.renamer.Renamer.rename_row.Goals as goal
 
 pub loop-pointer-init : goal.loop-pointer-init
 loop-pointer-init c = refl
 
 pub loop-pointer-preserved : goal.loop-pointer-preserved
 loop-pointer-preserved c =
-    let f : ℕ → ℕ = settled (function_of c.args.renaming.now c.args.depth) in
+    let f : ℕ → ℕ = settled (function_of c.args.self.now.renaming c.args.self.now.depth) in
     let i : ℕ = c.loop-pointer.pointer-index in
     let ys : List ℕ = c.loop-pointer.pointers in
     ap (set ys i) c.settle.ensures
@@ -17,7 +17,7 @@ loop-pointer-preserved c =
 
 pub returns : goal.returns
 returns c =
-    let f : ℕ → ℕ = settled (function_of c.args.renaming.now c.args.depth) in
+    let f : ℕ → ℕ = settled (function_of c.args.self.now.renaming c.args.self.now.depth) in
     let i : ℕ = c.loop-pointer.pointer-index in
     let ns : List ℕ = c.args.pointers.now in
     c.loop-pointer.invariant ∙ ap₂ (λ (a b : List ℕ). map f a ++ b) (take_all i ns c.loop-pointer-test.false) (drop_all i ns c.loop-pointer-test.false) ∙ append-nil (map f ns)
