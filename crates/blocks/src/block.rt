@@ -1,16 +1,16 @@
 // One block of a sheet: what its bytes give, and whether it may stand at a place.
-ghost use Rattle.std.specs.Prelude.{◌≡◌, ◌≤◌, true};
-ghost use Rattle.blocks.specs.Opening.{number_field, used_field, zeros, rightly_used, rightly_checked, rightly_formed, fault_of, payload_of, unless};
+ghost use Rattle.std.specs.Prelude.{◌≡◌, ◌+◌, ◌*◌, ◌<◌, ◌≤◌, true, slice_index};
+ghost use Rattle.blocks.specs.Opening.{used_field, zeros, rightly_used, rightly_checked, rightly_formed, fault_of, payload_of, unless};
 
 use crate::{BLOCK, FRONT, HEADER, PAYLOAD, check};
 use refusal::{Fault, Refusal};
 
-// The number that a block gives.
-#[tactic(auto, unfolding(crate::specs::Opening::number_field))]
-fn stated_number(block: &[u8; BLOCK]) -> usize
-    ensures { result ≡ number_field block.now }
+// The number in two bytes of a block from a place on, low byte first.
+fn number_at(block: &[u8; BLOCK], at: usize) -> usize
+    requires { at < 511 }
+    ensures { result ≡ slice_index block.now at + slice_index block.now (at + 1) * 256 }
 {
-    usize::from(u16::from_le_bytes([block[0], block[1]]))
+    usize::from(u16::from_le_bytes([block[at], block[at + 1]]))
 }
 
 // The used length that a block gives.
@@ -18,7 +18,7 @@ fn stated_number(block: &[u8; BLOCK]) -> usize
 fn used_length(block: &[u8; BLOCK]) -> usize
     ensures { result ≡ used_field block.now }
 {
-    usize::from(u16::from_le_bytes([block[2], block[3]]))
+    number_at(block, 2)
 }
 
 // Whether the check that a block gives is that of its first 508 bytes.
@@ -66,12 +66,12 @@ impl Place {
     }
 
     // Whether number, used length and filling of a block are right here.
-    #[tactic(auto, unfolding(crate::specs::Opening::rightly_formed))]
+    #[tactic(auto, unfolding(crate::specs::Opening::rightly_formed, crate::specs::Opening::number_field))]
     fn suits(self, block: &[u8; BLOCK]) -> bool
         ensures { result ≡ rightly_formed self.number self.more block.now }
     {
         let used = used_length(block);
-        stated_number(block) == self.number
+        number_at(block, 0) == self.number
             && self.allows(used)
             && all_zero(&block[HEADER + used..FRONT])
     }
