@@ -1,5 +1,6 @@
 -- What opening blocks into a buffer of the longest stream tells of the blocks.
-use Rattle.std.proofs.Common.{◌≡◌, ℕ, ◌-◌, Bool, false, List, length, take, drop, Ok, Err, Decides, Result, sym, ap, ◌∙◌, arith}
+use Rattle.std.proofs.Common.{◌≡◌, ℕ, ◌-◌, Bool, false, List, length, take, drop, Ok, Err, Decides, Result, sym, subst, ap, ◌∙◌, arith}
+use Rattle.std.specs.Result.{MatchResult}
 use Rattle.std.proofs.lemmas.List.{take_at}
 use Rattle.refusal.specs.declared.Fault.{Fault}
 use Rattle.refusal.specs.Writes.{answered, left, within}
@@ -30,12 +31,18 @@ module _ (bs s : List ℕ) (sealed : SealedOnly bs) where
   pub opens_not : (f : Fault) → answered (unpacking bs 64512) ≡ Err f → Decides false (opened bs ≡ Ok s)
   unfolding unpacking
   opens_not f answer = (
-    λ t. let z : ◌≡◌ {A = ℕ} 0 1 = cc in absurd (omega arith),
+    λ t. absurd cc,
     λ e.
         let fits : unpacking bs 64512 ≡ Ok s = ap (λ (o : Result (List ℕ) Fault). within 64512 o) e ∙ within_fits 64512 s (sealed s e).1 in
         let declined = answered_err (unpacking bs 64512) f answer in
-        let z : ◌≡◌ {A = ℕ} 0 1 = cc in absurd (omega arith),
+        absurd cc,
   )
+
+-- blocks open to a stream where they open, and the bytes that come of it are those of the stream
+pub opens_is : (bs s held out : List ℕ) (r : Result ℕ Fault) (b : Bool) → SealedOnly bs → r ≡ answered (unpacking bs 64512) → out ≡ left (unpacking bs 64512) held →
+    MatchResult r (λ n. Decides b (take (n - 0) out ≡ s)) (λ _. b ≡ false) → Decides b (opened bs ≡ Ok s)
+opens_is bs s held out (Ok n) b sealed answer buffer same = opens_decided bs s sealed n held out b (sym answer) buffer same
+opens_is bs s held out (Err f) b sealed answer buffer not_so = subst (λ (t : Bool). Decides t (opened bs ≡ Ok s)) (sym not_so) (opens_not bs s sealed f (sym answer))
 
 -- the blocks of a stream that was packed open to it
 pub packed_opens : (s held out : List ℕ) (room size : ℕ) → answered (packing s room) ≡ Ok size → out ≡ left (packing s room) held → OpensAgain s →

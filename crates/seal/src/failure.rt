@@ -1,30 +1,18 @@
 // Why nothing was sealed, in words for standard error.
 use crate::sealing::Unsealed;
-use std::{fmt, io};
+use std::io;
+use thiserror::Error;
 
-#[derive(Drop)]
+#[derive(Debug, Drop, Error)]
 pub enum Failure {
+    #[error("STREAM and SHEET are the same file")]
     SameFile,
+    #[error("STREAM cannot be read: {0}")]
     StreamUnread(io::Error),
-    Unsealed(Unsealed),
+    #[error("STREAM cannot be sealed: {0}")]
+    Unsealed(#[from] Unsealed),
+    #[error("SHEET cannot be written by way of SHEET.part: {0}")]
     SheetUnwritten(io::Error),
+    #[error("SHEET is written, but the report is not: {0}")]
     ReportUnwritten(io::Error),
-}
-
-impl fmt::Display for Failure {
-    fn fmt<W: fmt::Write>(&self, f: &mut fmt::Formatter<W>) -> fmt::Result {
-        match self {
-            Failure::SameFile => write!(f, "STREAM and SHEET are the same file"),
-            Failure::StreamUnread(e) => write!(f, "STREAM cannot be read: {e}"),
-            Failure::Unsealed(e) => write!(f, "STREAM cannot be sealed: {e}"),
-            Failure::SheetUnwritten(e) => write!(
-                f,
-                "SHEET cannot be written by way of SHEET.part: {e}"
-            ),
-            Failure::ReportUnwritten(e) => write!(
-                f,
-                "SHEET is written, but the report is not: {e}"
-            ),
-        }
-    }
 }

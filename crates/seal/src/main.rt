@@ -7,7 +7,7 @@ mod sealing;
 #[cfg(test)]
 mod tests;
 
-use blocks::{BLOCK, LONGEST_SHEET, LONGEST_STREAM};
+use blocks::{BLOCK, LONGEST_SHEET, LONGEST_STREAM, check};
 use failure::Failure;
 use sealing::seal_stream;
 use std::fs::File;
@@ -23,6 +23,13 @@ opens the blocks again to compare, and writes them to the file SHEET.";
 // One byte more than the longest stream, which is enough to see that a stream is too long.
 const READ_LIMIT: u64 = LONGEST_STREAM as u64 + 1;
 
+// A file's path and its bytes.
+#[derive(Clone, Copy)]
+struct Contents<'a> {
+    path: &'a str,
+    bytes: &'a [u8],
+}
+
 fn read_stream(rt: &HostRuntime, path: &str) -> io::Result<Vec<u8>> {
     let file = File::open(rt, path)?;
     let mut stream = Vec::new(rt.alloc());
@@ -31,60 +38,52 @@ fn read_stream(rt: &HostRuntime, path: &str) -> io::Result<Vec<u8>> {
 }
 
 // Writes a file beside the sheet first, so that a failure leaves no half of a sheet and an older sheet as it was.
-fn write_sheet(rt: &HostRuntime, path: &str, sheet: &[u8]) -> io::Result<()> {
+fn write_sheet(rt: &HostRuntime, sheet: Contents) -> io::Result<()> {
+    let Contents { path, bytes } = sheet;
     let part = format!(in rt.alloc(); "{path}.part")?;
     let mut file = File::create_new(rt, part.as_str())?;
-    let written = match file.write_all(sheet) {
-        Ok(()) => fs::rename(rt, part.as_str(), path),
-        Err(e) => Err(e),
-    };
+    let written = file
+        .write_all(bytes)
+        .and_then(|()| fs::rename(rt, part.as_str(), path));
     if written.is_err() {
         let _ = fs::remove_file(rt, part.as_str());
     }
     written
 }
 
-fn print_report(
-    rt: &HostRuntime,
-    stream: (&str, usize),
-    sheet_path: &str,
-    sheet: &[u8],
-) -> io::Result<()> {
-    let (stream_path, length) = stream;
-    println!(rt; "{stream_path}: length {length}")?;
-    for (n, block) in sheet.chunks(BLOCK).enumerate() {
-        if let [_, _, low, high, ..] = block {
-            let used = u16::from_le_bytes([*low, *high]);
-            let check = blocks::check(block);
-            println!(rt; "block {n}: used {used}, check {check}")?;
-        }
+fn print_report(rt: &HostRuntime, stream: Contents, sheet: Contents) -> io::Result<()> {
+    println!(rt; "{}: length {}", stream.path, stream.bytes.len())?;
+    let Contents { path, bytes } = sheet;
+    let (blocks, _) = bytes.as_chunks::<BLOCK>();
+    for (n, block) in blocks.iter().enumerate() {
+        let used = u16::from_le_bytes([block[2], block[3]]);
+        println!(rt; "block {n}: used {used}, check {}", check(block))?;
     }
-    let size = sheet.len();
-    let count = size / BLOCK;
-    println!(rt; "{sheet_path}: length {size}, blocks {count}, opened again to the same stream")
+    println!(rt;
+        "{path}: length {}, blocks {}, opened again to the same stream",
+        bytes.len(),
+        blocks.len()
+    )
 }
 
 fn run(rt: &HostRuntime, stream_path: &str, sheet_path: &str) -> Result<(), Failure> {
     if stream_path == sheet_path {
         return Err(Failure::SameFile);
     }
-    let stream = match read_stream(rt, stream_path) {
-        Ok(stream) => stream,
-        Err(e) => return Err(Failure::StreamUnread(e)),
-    };
+    let stream = read_stream(rt, stream_path).map_err(Failure::StreamUnread)?;
+    // A buffer of fixed length, so that sealing cannot fail for want of memory.
     let mut sheet = [0u8; LONGEST_SHEET];
-    let size = match seal_stream(&stream, &mut sheet) {
-        Ok(size) => size,
-        Err(e) => return Err(Failure::Unsealed(e)),
+    let size = seal_stream(&stream, &mut sheet)?;
+    let stream = Contents {
+        path: stream_path,
+        bytes: &stream,
     };
-    let sheet = &sheet[0..size];
-    if let Err(e) = write_sheet(rt, sheet_path, sheet) {
-        return Err(Failure::SheetUnwritten(e));
-    }
-    match print_report(rt, (stream_path, stream.len()), sheet_path, sheet) {
-        Ok(()) => Ok(()),
-        Err(e) => Err(Failure::ReportUnwritten(e)),
-    }
+    let sheet = Contents {
+        path: sheet_path,
+        bytes: &sheet[0..size],
+    };
+    write_sheet(rt, sheet).map_err(Failure::SheetUnwritten)?;
+    print_report(rt, stream, sheet).map_err(Failure::ReportUnwritten)
 }
 
 fn arguments(rt: &HostRuntime) -> io::Result<Vec<String>> {
@@ -93,23 +92,26 @@ fn arguments(rt: &HostRuntime) -> io::Result<Vec<String>> {
 }
 
 // Ends with status 1 after a failure or wrong arguments; what was wrong is on standard error.
+// It answers a code, since an error that it returned would be printed in other words.
 fn main(rt: HostRuntime) -> ExitCode {
     let Ok(args) = arguments(&rt) else {
         let _ = eprintln!(rt; "seal: the arguments cannot be read");
         return ExitCode::FAILURE;
     };
-    if args.len() == 2 && args[1].as_str() == "--help" {
-        let _ = println!(rt; "{USAGE}");
-        return ExitCode::SUCCESS;
-    }
-    if args.len() != 3 {
-        let _ = eprintln!(rt; "{USAGE}");
-        return ExitCode::FAILURE;
-    }
-    match run(&rt, args[1].as_str(), args[2].as_str()) {
-        Ok(()) => ExitCode::SUCCESS,
-        Err(failure) => {
-            let _ = eprintln!(rt; "seal: {failure}");
+    match args.as_slice() {
+        [_, option] if option.as_str() == "--help" => {
+            let _ = println!(rt; "{USAGE}");
+            ExitCode::SUCCESS
+        }
+        [_, stream, sheet] => match run(&rt, stream.as_str(), sheet.as_str()) {
+            Ok(()) => ExitCode::SUCCESS,
+            Err(failure) => {
+                let _ = eprintln!(rt; "seal: {failure}");
+                ExitCode::FAILURE
+            }
+        },
+        _ => {
+            let _ = eprintln!(rt; "{USAGE}");
             ExitCode::FAILURE
         }
     }

@@ -1,5 +1,5 @@
 // A stream is sealed, and its blocks are opened again to compare.
-ghost use Rattle.std.specs.Prelude.{◌≡◌, ◌≤◌, length, IfOk, Ok, Decides};
+ghost use Rattle.std.specs.Prelude.{◌≡◌, ◌↔◌, ◌≤◌, length, IfOk, IsTrue, Ok};
 ghost use Rattle.refusal.specs.Writes.{answered, left};
 ghost use Rattle.blocks.specs.Opening.{opened};
 ghost use Rattle.blocks.specs.Sealing.{packing};
@@ -8,15 +8,18 @@ ghost use Rattle.seal.specs.Sealed.{sealed_as};
 
 use blocks::{LONGEST_STREAM, pack, unpack};
 use refusal::Fault;
-use std::fmt;
+use thiserror::Error;
 
 // Why a stream was not sealed.
-#[derive(Clone, Copy, Debug)]
+#[derive(Clone, Copy, Debug, Error)]
 pub enum Unsealed {
+    #[error("{words} (refusal {number})", words = .0.refusal, number = .0.refusal.number())]
     Declined(Fault),
+    #[error("the blocks do not open to the same bytes")]
     OpensOtherwise,
 }
 
+// By hand, since a clause names the error that `?` makes, which a derived impl does not say.
 impl From<Fault> for Unsealed {
     ghost from_gives = { λ f r. r ≡ Declined f };
 
@@ -25,28 +28,13 @@ impl From<Fault> for Unsealed {
     }
 }
 
-impl fmt::Display for Unsealed {
-    fn fmt<W: fmt::Write>(&self, f: &mut fmt::Formatter<W>) -> fmt::Result {
-        match self {
-            Unsealed::Declined(why) => {
-                let number = why.refusal.number();
-                let words = why.refusal.words();
-                write!(f, "{words} (refusal {number})")
-            }
-            Unsealed::OpensOtherwise => write!(f, "the blocks do not open to the same bytes"),
-        }
-    }
-}
-
 // Whether the blocks open to the stream.
 fn opens_to(sheet: &[u8], stream: &[u8]) -> bool
-    ensures { Decides result (opened sheet.now ≡ Ok stream.now) }
+    ensures { IsTrue result ↔ (opened sheet.now ≡ Ok stream.now) }
 {
+    // A buffer of fixed length, so that comparing cannot fail for want of memory.
     let mut again = [0u8; LONGEST_STREAM];
-    match unpack(sheet, &mut again) {
-        Ok(length) => &again[0..length] == stream,
-        Err(_) => false,
-    }
+    unpack(sheet, &mut again).is_ok_and(|length| &again[0..length] == stream)
 }
 
 // Seals a stream into blocks at the start of `sheet`, opens them again and compares; answers their length.

@@ -17,13 +17,13 @@ fn nothing_written(rt: &(impl Abort + Files), sheet: &str, part: &str) -> Result
 #[test]
 fn a_stream_is_sealed(rt: HostRuntime) -> Result<(), Fail> {
     let stream = [9u8; 505];
-    fs::write(&rt, "good.stream", &stream[0..505])?;
+    fs::write(&rt, "good.stream", &stream)?;
     assert!(rt; run(&rt, "good.stream", "good.sheet").is_ok());
     let sheet = fs::read(&rt, "good.sheet")?;
     let mut again = [0u8; 505];
     assert_eq!(rt; sheet.len(), 1024);
     assert!(rt; blocks::unpack(&sheet, &mut again).is_ok());
-    assert!(rt; &again[0..505] == &stream[0..505]);
+    assert!(rt; again == stream);
     assert!(rt; !fs::exists(&rt, "good.sheet.part")?);
     Ok(())
 }
@@ -41,14 +41,12 @@ fn a_missing_stream_is_told(rt: HostRuntime) -> Result<(), Fail> {
 #[test]
 fn a_long_stream_is_told(rt: HostRuntime) -> Result<(), Fail> {
     let stream = [1u8; 64_513];
-    fs::write(&rt, "long.stream", &stream[0..64_513])?;
-    match run(&rt, "long.stream", "long.sheet") {
-        Err(Failure::Unsealed(Unsealed::Declined(fault))) => assert_eq!(rt;
-            fault.refusal,
-            Refusal::StreamTooLong
-        ),
-        _ => return Err(Fail::new("the stream was not declined")),
-    }
+    fs::write(&rt, "long.stream", &stream)?;
+    let Err(Failure::Unsealed(Unsealed::Declined(fault))) = run(&rt, "long.stream", "long.sheet")
+    else {
+        return Err(Fail::new("the stream was not declined"));
+    };
+    assert_eq!(rt; fault.refusal, Refusal::StreamTooLong);
     nothing_written(&rt, "long.sheet", "long.sheet.part")
 }
 
