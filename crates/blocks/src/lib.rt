@@ -37,8 +37,8 @@ pub const LONGEST_SHEET: usize = 65_536;
 // The remainder of the check's sum is taken by this prime.
 const CHECK_MODULUS: u32 = 65_521;
 
-// The sum of (i + 1) × byte i over at most 508 bytes.
-// It is a loop over the bytes with their index, as was asked for.
+// The sum of (i + 1) × byte i over at most 508 bytes. The requirements name this form: the bytes with their index, one by one,
+// and the sum below a stated bound.
 fn weighted_sum(bytes: &[u8]) -> u32
     requires { length bytes.now ≤ 508 }
     ensures sum { result ≡ sum_from 1 bytes.now }

@@ -49,7 +49,10 @@ fn copy_payloads(blocks: &[[u8; BLOCK]], out: &mut [u8])
 pub fn unpack(blocks: &[u8], out: &mut [u8]) -> Result<usize, Fault>
     ensures answer { result ≡ answered (unpacking blocks.now (length out.old)) }
     ensures buffer { out.new ≡ left (unpacking blocks.now (length out.old)) out.old }
+
+    // It follows from the answer. Said again in numbers, it lets a caller cut the buffer there without a proof of its own.
     ensures room { IfOk result (λ n. n ≤ length out.old) }
+
     ensures sealed { SealedOnly blocks.now }
 {
     if !whole_blocks(blocks.len()) {

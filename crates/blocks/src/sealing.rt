@@ -26,7 +26,10 @@ fn seal_block(number: u16, payload: &[u8], out: &mut [u8])
 pub fn pack(stream: &[u8], out: &mut [u8]) -> Result<usize, Fault>
     ensures answer { result ≡ answered (packing stream.now (length out.old)) }
     ensures buffer { out.new ≡ left (packing stream.now (length out.old)) out.old }
+
+    // It follows from the answer. Said again in numbers, it lets a caller cut the buffer there without a proof of its own.
     ensures room { IfOk result (λ n. n ≤ length out.old) }
+
     ensures opens { OpensAgain stream.now }
 {
     if stream.len() > LONGEST_STREAM {

@@ -117,6 +117,7 @@ impl Refusal {
     }
 }
 
+// By hand: it shows what `words` answers, and a derived text would say it a second time.
 impl fmt::Display for Refusal {
     ghost output = { λ x. Some (words_of x) };
 

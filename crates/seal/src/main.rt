@@ -56,6 +56,7 @@ fn print_report(rt: &HostRuntime, stream: Contents, sheet: Contents) -> io::Resu
     let Contents { path, bytes } = sheet;
     let (blocks, _) = bytes.as_chunks::<BLOCK>();
     for (n, block) in blocks.iter().enumerate() {
+        // Two bytes of the format, for this line alone: a public call of `blocks` would promise them to everyone.
         let used = u16::from_le_bytes([block[2], block[3]]);
         println!(rt; "block {n}: used {used}, check {}", check(block))?;
     }

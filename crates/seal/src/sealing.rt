@@ -41,6 +41,8 @@ fn opens_to(sheet: &[u8], stream: &[u8]) -> bool
 pub fn seal_stream(stream: &[u8], sheet: &mut [u8]) -> Result<usize, Unsealed>
     ensures answer { result ≡ sealed_as (answered (packing stream.now (length sheet.old))) }
     ensures buffer { sheet.new ≡ left (packing stream.now (length sheet.old)) sheet.old }
+
+    // As in `pack`: said again in numbers, for callers that cut the buffer.
     ensures room { IfOk result (λ n. n ≤ length sheet.old) }
 {
     let size = pack(stream, sheet)?;

@@ -3,7 +3,8 @@ ghost use Rattle.std.specs.Prelude.{◌≡◌, ℕ, ◌<◌, ◌≤◌, Bool};
 ghost use Rattle.calculus.specs.Names.{exchange, send};
 ghost use Rattle.terms.specs.Pointers.{function_of, is_counted, any_of, Tests};
 
-// What is done to every pointer of a term.
+// What is done to every pointer of a term. A closed set, chosen by name and told apart in one match: with a closure for each,
+// a caller's proof would have to say again what the closure does.
 #[derive(Clone, Copy, PartialEq, Eq, Debug)]
 pub enum Renaming<'a> {
     // free pointers rise by 1
