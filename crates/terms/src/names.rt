@@ -1,7 +1,7 @@
 // Pointers are tested and renamed.
 ghost use Rattle.std.specs.Prelude.{◌≡◌, ℕ, ◌<◌, ◌≤◌, Bool, map};
 ghost use Rattle.calculus.specs.Names.{exchange, send};
-ghost use Rattle.terms.specs.Pointers.{function_of, settled, is_counted, any_of, Tests};
+ghost use Rattle.terms.specs.Pointers.{function_of, settled, any_of, Tests};
 
 // What is done to every pointer of a term.
 #[derive(Clone, Copy, PartialEq, Eq, Debug)]
@@ -74,14 +74,6 @@ fn sent(objects: &[u8], depth: usize, pointer: usize) -> usize
     }
 }
 
-// Whether a pointer at a depth is the one that the top of the term counts so.
-#[tactic(auto, unfolding(crate::specs::Pointers::is_counted))]
-pub(crate) fn is_counted(top: u8, depth: usize, pointer: u8) -> bool
-    ensures { result ≡ is_counted top depth pointer }
-{
-    usize::from(pointer).checked_sub(depth) == Some(usize::from(top))
-}
-
 // Whether some pointer of a row, all at one depth, passes a test.
 pub(crate) fn any_passes<F: Fn(usize, u8) -> bool>(test: &F, depth: usize, pointers: &[u8]) -> bool
     requires { F.IsAlwaysCallable test.now }
@@ -91,6 +83,7 @@ pub(crate) fn any_passes<F: Fn(usize, u8) -> bool>(test: &F, depth: usize, point
 }
 
 // Renames a row of pointers, all at one depth; one that would pass 255 stays.
+#[tactic(auto, using(std::proofs::lemmas::Grind::common_steps, std::proofs::lemmas::List::Edits::map_over_more))]
 pub(crate) fn rename_row(renaming: &Renaming<'_>, depth: usize, pointers: &mut [u8])
     ensures { pointers.new ≡ map (settled (function_of renaming.now depth)) pointers.old }
 {

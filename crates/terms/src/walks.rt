@@ -10,12 +10,13 @@ ghost use Rattle.terms.specs.Reading.{scan, whole, is_term};
 ghost use Rattle.terms.specs.Views.{bytes_of, tree};
 
 use crate::head::{Head, Parts};
-use crate::names::{Renaming, any_passes, is_counted, rename_row};
+use crate::names::{Renaming, any_passes, rename_row};
 use crate::stretch::Stretch;
 use crate::term::Term;
 use refusal::{Fault, Refusal};
 
 // Whether a pointer of the head at the start, its subject or an object, passes a test.
+#[tactic(auto, using(crate::proofs::Scanned::head_size))]
 fn head_passes<F: Fn(usize, u8) -> bool>(head: Head, stretch: &Stretch<'_>, test: &F) -> bool
     requires head { head_of stretch.now.bytes.now ≡ Ok head }
     requires callable { F.IsAlwaysCallable test.now }
@@ -50,6 +51,7 @@ fn clear<F: Fn(usize, u8) -> bool>(stretch: &Stretch<'_>, test: &F) -> Option<us
 }
 
 // Renames the pointers of the head at the start itself; one that would pass 255 stays.
+#[tactic(auto, using(crate::proofs::Scanned::head_size))]
 fn rename_head(renaming: &Renaming<'_>, depth: usize, head: Head, bytes: &mut [u8])
     requires { head_of bytes.old ≡ Ok head }
     ensures { bytes.new ≡ head_renamed (settled (function_of renaming.now depth)) head bytes.old }
@@ -90,16 +92,17 @@ impl Term<'_> {
     pub fn has_free(&self, pointer: u8) -> bool
         ensures { result ≡ free pointer (tree self.now) }
     {
-        let whole = Stretch::of(self);
-        clear(&whole, &|depth, p| is_counted(pointer, depth, p)).is_none()
+        let top = usize::from(pointer);
+        let counted = |depth, pointer: u8| usize::from(pointer).checked_sub(depth) == Some(top);
+        clear(&Stretch::of(self), &counted).is_none()
     }
 
     // Whether a pointer would pass 255 by the renaming.
     pub fn overflows(&self, renaming: Renaming<'_>) -> bool
         ensures { result ≡ not (are_bytes (write (rename (function_of renaming.entry) 0 (tree self.now)))) }
     {
-        let whole = Stretch::of(self);
-        clear(&whole, &|depth, p| renaming.apply(depth, p) > 255).is_none()
+        let passes_255 = |depth, pointer: u8| renaming.apply(depth, pointer) > 255;
+        clear(&Stretch::of(self), &passes_255).is_none()
     }
 
     // Writes the renamed term to the start of `out`, and answers its length, which is that of the term.
