@@ -1,6 +1,6 @@
 -- A walk that looks for a pointer, node by node.
 use Rattle.std.proofs.Common.{◌≡◌, ℕ, ◌+◌, ◌-◌, Bool, true, false, cond, not, ◌||◌, List, ◌++◌, length, take, drop, is_some, is_err, Some, None, Ok, Err, Option, Result, sym, refl, ap, ◌∙◌, ap₂, arith}
-use Rattle.std.proofs.Math.Bool.{or_assoc}
+use Rattle.std.proofs.Math.Bool.{or_assoc, or-false}
 use Rattle.std.proofs.lemmas.Bool.{false≢true, not-true, not-false}
 use Rattle.std.specs.Option.{IsSome, option_map, option_and_then}
 use Rattle.std.specs.Result.{IsErr}
@@ -14,7 +14,7 @@ use Rattle.terms.specs.Reading.{Scanned, whole, stuck, wrapped, secondly, grown,
 use Rattle.terms.specs.Pointers.{any_of, any_pointer, clear_of}
 use Rattle.terms.proofs.Found.{length_zero, length_one, length_two}
 use Rattle.terms.proofs.Parted.{after_whole}
-use Rattle.terms.proofs.Pointed.{any_zero, any_one, any_two}
+use Rattle.terms.proofs.Pointed.{any_part, any_built}
 use Rattle.terms.proofs.Readings.{term_scan}
 use Rattle.terms.proofs.Scanned.{head_opens, head_size, scan_head, scan_none}
 
@@ -124,18 +124,21 @@ clear_node test d ns h own head own_is = ap (clear_of test d) (scan_head ns h he
     count : length (objects_in h ns) ≡ objects_of h
     count = (head_opens ns h head).count
 
+    any : (parts : Parts) → parts_of h ≡ parts → (p q : Process) →
+        any_pointer test d (built h (objects_in h ns) p q) ≡ (own || any_part parts (any_pointer test (d + binds_of h) p) (any_pointer test (d + binds_of h) q))
+    any parts z p q =
+        any_built test d h (objects_in h ns) p q count
+        ∙ ap₂ (λ (b : Bool) (k : Parts). b || any_part k (any_pointer test (d + binds_of h) p) (any_pointer test (d + binds_of h) q)) (sym own_is) z
+
     by_parts : (parts : Parts) → parts_of h ≡ parts → clear_of test d (grown scan (built h (objects_in h ns)) parts (drop (size_of h) ns))
         ≡ cond own None (parts_clear parts (size_of h) (λ n. clear_of test (d + binds_of h) (scan (drop n (drop (size_of h) ns)))))
     by_parts Zero z =
-        ap₂ (λ (b : Bool) (n : ℕ). cond b None (Some n)) (any_zero test d h (objects_in h ns) terminated terminated z count ∙ sym own_is)
-        (length_zero h (objects_in h ns) terminated terminated z count)
+        ap₂ (λ (b : Bool) (n : ℕ). cond b None (Some n)) (any Zero z terminated terminated ∙ or-false own) (length_zero h (objects_in h ns) terminated terminated z count)
     by_parts One z =
-        wrapped_clear test d (d + binds_of h) own (size_of h) (λ p. built h (objects_in h ns) p terminated)
-        (λ p. any_one test d h (objects_in h ns) p terminated z count ∙ ap (λ (b : Bool). b || any_pointer test (d + binds_of h) p) (sym own_is))
+        wrapped_clear test d (d + binds_of h) own (size_of h) (λ p. built h (objects_in h ns) p terminated) (λ p. any One z p terminated)
         (λ p. length_one h (objects_in h ns) p terminated z count) (scan (drop (size_of h) ns))
     by_parts Two z =
-        secondly_clear test d (d + binds_of h) own (size_of h) (built h (objects_in h ns))
-        (λ p q. any_two test d h (objects_in h ns) p q z count ∙ ap (λ (b : Bool). b || (any_pointer test (d + binds_of h) p || any_pointer test (d + binds_of h) q)) (sym own_is))
+        secondly_clear test d (d + binds_of h) own (size_of h) (built h (objects_in h ns)) (any Two z)
         (λ p q. length_two h (objects_in h ns) p q z count) (drop (size_of h) ns)
 
 pub clear_none : (test : ℕ → ℕ → Bool) (d : ℕ) (ns : List ℕ) → IsErr (head_of ns) → clear_of test d (scan ns) ≡ None
@@ -157,21 +160,21 @@ own_clear test d ns h head some = by_own (any_of (test d) (subject_in h) || any_
     by_own true is = absurd (false≢true (sym (ap is_some (clear_node test d ns h true head (sym is))) ∙ some))
     by_own false is = is
 
-pub record Clear (test : ℕ → ℕ → Bool) (d : ℕ) (s : Scanned) (n : ℕ) : Type 0 where
+-- the process whose size is answered, and what stands after it
+pub record Sized (s : Scanned) (n : ℕ) : Type 0 where
   pub process : Process
   pub rest : List ℕ
   pub is : s ≡ whole process rest
-  pub none : any_pointer test d process ≡ false
   pub long : n ≡ length (write process)
 
-pub clear_some : (test : ℕ → ℕ → Bool) (d : ℕ) (s : Scanned) (n : ℕ) → Some n ≡ clear_of test d s → Clear test d s n
+pub clear_some : (test : ℕ → ℕ → Bool) (d : ℕ) (s : Scanned) (n : ℕ) → Some n ≡ clear_of test d s → Sized s n
 unfolding clear_of
 clear_some test d (stuck q) n e = absurd (false≢true (sym (ap is_some e)))
-clear_some test d (whole p q) n e = by_test (any_pointer test d p) refl e
+clear_some test d (whole p q) n e = by_test (any_pointer test d p) e
   where
-    by_test : (b : Bool) → any_pointer test d p ≡ b → Some n ≡ cond b None (Some (length (write p))) → Clear test d (whole p q) n
-    by_test true is h = absurd (false≢true (sym (ap is_some h)))
-    by_test false is h = record { process = p; rest = q; is = refl; none = is; long = cc }
+    by_test : (b : Bool) → Some n ≡ cond b None (Some (length (write p))) → Sized (whole p q) n
+    by_test true h = absurd (false≢true (sym (ap is_some h)))
+    by_test false h = record { process = p; rest = q; is = refl; long = cc }
 
 -- what is told of a whole term
 pub clear_told : (test : ℕ → ℕ → Bool) (ns : List ℕ) (o : Option ℕ) (r : Bool) → is_term ns ≡ true → o ≡ clear_of test 0 (scan ns) → is_some o ≡ not r → r ≡ any_pointer test 0 (tree_of ns)

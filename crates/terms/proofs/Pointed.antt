@@ -137,38 +137,22 @@ any_alone test s = go (test s)
     go false = refl
 
 -- The pointers of a node: its subject, its objects, and those of its parts.
-pub any_zero : (test : ℕ → ℕ → Bool) (d : ℕ) (h : Head) (os : List ℕ) (p q : Process) → parts_of h ≡ Zero → length os ≡ objects_of h →
-    any_pointer test d (built h os p q) ≡ (any_of (test d) (subject_in h) || any_of (test d) os)
-unfolding any_pointer built subject_in any_of
-any_zero test d Terminated os p q z e = sym (any_none (test d) os e)
-any_zero test d (Output s n) os p q z e = zero_one (sym z)
-any_zero test d (Input s n) os p q z e = zero_one (sym z)
-any_zero test d Choice os p q z e = zero_two (sym z)
-any_zero test d Parallel os p q z e = zero_two (sym z)
-any_zero test d (Restriction s) os p q z e = zero_one (sym z)
-any_zero test d Replication os p q z e = zero_one (sym z)
+abbrev pub any_part : Parts → Bool → Bool → Bool
+any_part Zero first second = false
+any_part One first second = first
+any_part Two first second = first || second
 
-pub any_one : (test : ℕ → ℕ → Bool) (d : ℕ) (h : Head) (os : List ℕ) (p q : Process) → parts_of h ≡ One → length os ≡ objects_of h →
-    any_pointer test d (built h os p q) ≡ ((any_of (test d) (subject_in h) || any_of (test d) os) || any_pointer test (d + binds_of h) p)
+pub any_built : (test : ℕ → ℕ → Bool) (d : ℕ) (h : Head) (os : List ℕ) (p q : Process) → length os ≡ objects_of h →
+    any_pointer test d (built h os p q)
+    ≡ ((any_of (test d) (subject_in h) || any_of (test d) os) || any_part (parts_of h) (any_pointer test (d + binds_of h) p) (any_pointer test (d + binds_of h) q))
 unfolding any_pointer built subject_in any_of
-any_one test d Terminated os p q z e = zero_one z
-any_one test d (Output s n) os p q z e = rw (any_alone (test d) s, or_assoc, add-zero d) refl
-any_one test d (Input s n) os p q z e = rw (any_alone (test d) s, or_assoc, any_none (test d) os e) refl
-any_one test d Choice os p q z e = one_two (sym z)
-any_one test d Parallel os p q z e = one_two (sym z)
-any_one test d (Restriction s) os p q z e = rw (any_none (test d) os e, add-one d) refl
-any_one test d Replication os p q z e = rw (any_none (test d) os e, add-zero d) refl
-
-pub any_two : (test : ℕ → ℕ → Bool) (d : ℕ) (h : Head) (os : List ℕ) (p q : Process) → parts_of h ≡ Two → length os ≡ objects_of h →
-    any_pointer test d (built h os p q) ≡ ((any_of (test d) (subject_in h) || any_of (test d) os) || (any_pointer test (d + binds_of h) p || any_pointer test (d + binds_of h) q))
-unfolding any_pointer built subject_in any_of
-any_two test d Terminated os p q z e = zero_two z
-any_two test d (Output s n) os p q z e = one_two z
-any_two test d (Input s n) os p q z e = one_two z
-any_two test d Choice os p q z e = rw (any_none (test d) os e, add-zero d) refl
-any_two test d Parallel os p q z e = rw (any_none (test d) os e, add-zero d) refl
-any_two test d (Restriction s) os p q z e = one_two z
-any_two test d Replication os p q z e = one_two z
+any_built test d Terminated os p q e = rw (any_none (test d) os e) refl
+any_built test d (Output s n) os p q e = rw (any_alone (test d) s, or_assoc, add-zero d) refl
+any_built test d (Input s n) os p q e = rw (any_alone (test d) s, or_assoc, any_none (test d) os e) refl
+any_built test d Choice os p q e = rw (any_none (test d) os e, add-zero d) refl
+any_built test d Parallel os p q e = rw (any_none (test d) os e, add-zero d) refl
+any_built test d (Restriction s) os p q e = rw (any_none (test d) os e, add-one d) refl
+any_built test d Replication os p q e = rw (any_none (test d) os e, add-zero d) refl
 
 -- A node renamed.
 pub rename-built : (f : ℕ → ℕ → ℕ) (d : ℕ) (h : Head) (os : List ℕ) (p q : Process) →
@@ -182,32 +166,12 @@ rename-built f d Parallel os p q = rw (add-zero d) refl
 rename-built f d (Restriction s) os p q = rw (add-one d) refl
 rename-built f d Replication os p q = rw (add-zero d) refl
 
-pub parts_renamed : (f : ℕ → ℕ) (h : Head) → parts_of (renamed_head f h) ≡ parts_of h
+pub shape_renamed : (f : ℕ → ℕ) (h : Head) → (parts_of (renamed_head f h) ≡ parts_of h) × (objects_of (renamed_head f h) ≡ objects_of h) × (size_of (renamed_head f h) ≡ size_of h)
 unfolding renamed_head
-parts_renamed f Terminated = refl
-parts_renamed f (Output s n) = refl
-parts_renamed f (Input s n) = refl
-parts_renamed f Choice = refl
-parts_renamed f Parallel = refl
-parts_renamed f (Restriction s) = refl
-parts_renamed f Replication = refl
-
-pub objects_renamed : (f : ℕ → ℕ) (h : Head) → objects_of (renamed_head f h) ≡ objects_of h
-unfolding renamed_head
-objects_renamed f Terminated = refl
-objects_renamed f (Output s n) = refl
-objects_renamed f (Input s n) = refl
-objects_renamed f Choice = refl
-objects_renamed f Parallel = refl
-objects_renamed f (Restriction s) = refl
-objects_renamed f Replication = refl
-
-pub size_renamed : (f : ℕ → ℕ) (h : Head) → size_of (renamed_head f h) ≡ size_of h
-unfolding renamed_head
-size_renamed f Terminated = refl
-size_renamed f (Output s n) = refl
-size_renamed f (Input s n) = refl
-size_renamed f Choice = refl
-size_renamed f Parallel = refl
-size_renamed f (Restriction s) = refl
-size_renamed f Replication = refl
+shape_renamed f Terminated = (refl, refl, refl)
+shape_renamed f (Output s n) = (refl, refl, refl)
+shape_renamed f (Input s n) = (refl, refl, refl)
+shape_renamed f Choice = (refl, refl, refl)
+shape_renamed f Parallel = (refl, refl, refl)
+shape_renamed f (Restriction s) = (refl, refl, refl)
+shape_renamed f Replication = (refl, refl, refl)

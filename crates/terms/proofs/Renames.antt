@@ -18,7 +18,7 @@ use Rattle.terms.specs.Fitting.{are_bytes}
 use Rattle.terms.specs.Heads.{built, size_of, subjects_of, objects_of, binds_of, parts_of, head_of, objects_in, subject_in, front, renamed_head, head_renamed}
 use Rattle.terms.specs.Pointers.{function_of, settled, renamed, any_of, any_pointer, passes_255, clear_of, renamed_at_start}
 use Rattle.terms.specs.Reading.{Scanned, whole, wrapped, secondly, grown, scan, is_term, tree_of}
-use Rattle.terms.proofs.Pointed.{any_alone, rename-built, parts_renamed, objects_renamed, size_renamed, length-renamed, overflow_any}
+use Rattle.terms.proofs.Pointed.{any_alone, rename-built, shape_renamed, length-renamed, overflow_any}
 use Rattle.terms.proofs.Fitted.{fits_renamed}
 use Rattle.terms.proofs.Cleared.{parts_clear, clear_node, clear_some, own_clear}
 use Rattle.terms.proofs.Parted.{after_whole}
@@ -109,9 +109,9 @@ node_written r d h os t u count parts z clear =
     let (subject, objects) = or_parts (any_of (passes_255 r d) (subject_in h)) (any_of (passes_255 r d) os) clear in
     ap write (rename-built (function_of r) d h os t u)
     ∙ write-built (renamed_head (function_of r d) h) (map (function_of r d) os) (rename (function_of r) (d + binds_of h) t) (rename (function_of r) (d + binds_of h) u)
-    (length-map os (function_of r d) ∙ count ∙ sym (objects_renamed (function_of r d) h))
+    (length-map os (function_of r d) ∙ count ∙ sym (shape_renamed (function_of r d) h).1)
     ∙ ap₂ (λ (ns : List ℕ) (k : Parts). ns ++ parts_written k (rename (function_of r) (d + binds_of h) t) (rename (function_of r) (d + binds_of h) u))
-    (sym (front_clear r d h os subject objects)) (parts_renamed (function_of r d) h ∙ z)
+    (sym (front_clear r d h os subject objects)) ((shape_renamed (function_of r d) h).0 ∙ z)
 
 -- a write from a place to the end
 put_end : (n : ℕ) (xs ys : List ℕ) → put_mid n (length xs - n) xs ys ≡ take n xs ++ ys
@@ -151,8 +151,8 @@ module _ (r : Renaming) (d : ℕ) (ns : List ℕ) (h : Head) (is : head_of ns �
   length_start : length start ≡ size
   length_start =
       length_front (renamed_head (settled (function_of r d)) h) (map (settled (function_of r d)) (objects_in h ns))
-      (length-map (objects_in h ns) (settled (function_of r d)) ∙ count ∙ sym (objects_renamed (settled (function_of r d)) h))
-      ∙ size_renamed (settled (function_of r d)) h ∙ sym size_is
+      (length-map (objects_in h ns) (settled (function_of r d)) ∙ count ∙ sym (shape_renamed (settled (function_of r d)) h).1)
+      ∙ (shape_renamed (settled (function_of r d)) h).2 ∙ sym size_is
 
   -- the parts stand where they stood
   part_is : part ≡ drop (size_of h) ns

@@ -1,7 +1,7 @@
 // Pointers are tested and renamed.
 ghost use Rattle.std.specs.Prelude.{◌≡◌, ℕ, ◌<◌, ◌≤◌, Bool};
 ghost use Rattle.calculus.specs.Names.{exchange, send};
-ghost use Rattle.terms.specs.Pointers.{function_of, is_counted, any_of, Tests};
+ghost use Rattle.terms.specs.Pointers.{function_of, any_of, Tests};
 
 // What is done to every pointer of a term. A closed set, chosen by name and told apart in one match: with a closure for each,
 // a caller's proof would have to say again what the closure does.
@@ -65,14 +65,6 @@ fn sent(objects: &[u8], depth: usize, pointer: usize) -> usize
     } else {
         pointer - objects.len()
     }
-}
-
-// Whether a pointer at a depth is the one that the top of the term counts so.
-#[tactic(auto, unfolding(crate::specs::Pointers::is_counted))]
-pub(crate) fn is_counted(top: u8, depth: usize, pointer: u8) -> bool
-    ensures { result ≡ is_counted top depth pointer }
-{
-    usize::from(pointer).checked_sub(depth) == Some(usize::from(top))
 }
 
 // Whether some pointer of a row, all at one depth, passes a test.

@@ -24,6 +24,7 @@ impl Renamer<'_> {
     }
 
     // Renames a row of pointers.
+    #[tactic(auto, using(std::proofs::lemmas::Grind::common_steps, std::proofs::lemmas::List::Edits::map_over_more))]
     fn rename_row(&self, pointers: &mut [u8])
         ensures { pointers.new ≡ map (settled (function_of self.now.renaming self.now.depth)) pointers.old }
     {
@@ -33,6 +34,7 @@ impl Renamer<'_> {
     }
 
     // Renames the pointers of the head at the start itself.
+    #[tactic(auto, using(crate::proofs::Scanned::head_size))]
     fn rename_head(&self, head: Head, bytes: &mut [u8])
         requires { head_of bytes.old ≡ Ok head }
         ensures { bytes.new ≡ head_renamed (settled (function_of self.now.renaming self.now.depth)) head bytes.old }

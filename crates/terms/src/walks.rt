@@ -10,13 +10,14 @@ ghost use Rattle.terms.specs.Reading.{scan, whole, is_term};
 ghost use Rattle.terms.specs.Views.{bytes_of, tree};
 
 use crate::head::{Head, Parts};
-use crate::names::{Renaming, any_passes, is_counted};
+use crate::names::{Renaming, any_passes};
 use crate::renamer::Renamer;
 use crate::stretch::Stretch;
 use crate::term::Term;
 use refusal::{Fault, Refusal};
 
 // Whether a pointer of the head at the start, its subject or an object, passes a test.
+#[tactic(auto, using(crate::proofs::Scanned::head_size))]
 fn head_passes<F: Fn(usize, u8) -> bool>(head: Head, stretch: &Stretch<'_>, test: &F) -> bool
     requires head { head_of stretch.now.bytes.now ≡ Ok head }
     requires callable { F.IsAlwaysCallable test.now }
@@ -55,16 +56,17 @@ impl Term<'_> {
     pub fn has_free(&self, pointer: u8) -> bool
         ensures { result ≡ free pointer (tree self.now) }
     {
-        let whole = Stretch::of(self);
-        clear(&whole, &|depth, p| is_counted(pointer, depth, p)).is_none()
+        let top = usize::from(pointer);
+        let counted = |depth, pointer: u8| usize::from(pointer).checked_sub(depth) == Some(top);
+        clear(&Stretch::of(self), &counted).is_none()
     }
 
     // Whether a pointer would pass 255 by the renaming.
     pub fn overflows(&self, renaming: Renaming<'_>) -> bool
         ensures { result ≡ not (are_bytes (write (rename (function_of renaming.entry) 0 (tree self.now)))) }
     {
-        let whole = Stretch::of(self);
-        clear(&whole, &|depth, p| renaming.apply(depth, p) > 255).is_none()
+        let passes_255 = |depth, pointer: u8| renaming.apply(depth, pointer) > 255;
+        clear(&Stretch::of(self), &passes_255).is_none()
     }
 
     // Writes the renamed term to the start of `out`, and answers its length, which is that of the term.

@@ -1,17 +1,5 @@
-use Rattle.std.proofs.Common.{arith}
 use Rattle.terms.proofs.Cleared.{passed_first, passed_second}
-use Rattle.terms.proofs.Scanned.{head_size}
 use Rattle.terms.proofs.walks.head_passes.Goals as goal
-
-pub slice_bounds-subject-end : goal.slice_bounds-subject-end
-slice_bounds-subject-end g c =
-    let (some, room, rows, few) = head_size c.args.stretch.now.bytes.now c.args.head c.requires.head in
-    omega arith
-
-pub slice_bounds-objects-end : goal.slice_bounds-objects-end
-slice_bounds-objects-end g c =
-    let (some, room, rows, few) = head_size c.args.stretch.now.bytes.now c.args.head c.requires.head in
-    omega arith
 
 pub returns-then-any_passes : goal.returns-then-any_passes
 returns-then-any_passes g c known tests =

@@ -1,18 +1,6 @@
-use Rattle.std.proofs.Common.{arith}
 use Rattle.terms.specs.Pointers.{function_of, settled}
 use Rattle.terms.proofs.Renames.{rows_renamed}
-use Rattle.terms.proofs.Scanned.{head_size}
 use Rattle.terms.proofs.renamer.Renamer.rename_head.Goals as goal
-
-pub slice_bounds-rename_row-end : goal.slice_bounds-rename_row-end
-slice_bounds-rename_row-end c =
-    let size = head_size c.args.bytes.now c.args.head c.requires in
-    omega arith
-
-pub slice_bounds-rename_row-end-2 : goal.slice_bounds-rename_row-end-2
-slice_bounds-rename_row-end-2 c =
-    let size = head_size c.args.bytes.now c.args.head c.requires in
-    omega arith
 
 pub returns : goal.returns
 returns c =
