@@ -1,13 +1,12 @@
 -- A term taken apart: its parts are terms, and make it up.
-use Rattle.std.proofs.Common.{◌≡◌, ℕ, ◌-◌, ◌≤◌, true, List, [], ◌∷◌, length, take, drop, Some, Option, Ok, Err, sym, refl, ap, ◌∙◌, subst, ap₂, arith}
-use Rattle.std.proofs.lemmas.List.{length-drop, take_at, take_rest, append-nil}
+use Rattle.std.proofs.Common.{◌≡◌, ℕ, ◌≤◌, true, List, [], length, take, drop, Some, Option, Ok, Err, sym, ap, ◌∙◌, arith}
+use Rattle.std.proofs.lemmas.List.{length-drop, take_at, append-nil}
 use Rattle.calculus.specs.Trees.{Process, terminated, write}
 use Rattle.terms.specs.declared.head.Head.{Head}
-use Rattle.terms.specs.declared.head.Parts.{Parts}
 use Rattle.terms.specs.declared.head.Parts.TheVariants.{Zero, One, Two}
 use Rattle.terms.specs.Fitting.{are_bytes}
 use Rattle.terms.specs.Heads.{built, size_of, parts_of, head_of, objects_in}
-use Rattle.terms.specs.Reading.{whole, scan, scan_with, onward, grown, is_term, tree_of, process_in, size_in, AreTwo}
+use Rattle.terms.specs.Reading.{whole, scan, is_term, tree_of, process_in, size_in, AreTwo}
 use Rattle.terms.proofs.Numbers.{bytes_take, bytes_drop}
 use Rattle.terms.proofs.Parted.{whole_is, headed, parts_zero, parts_one, parts_two, after_whole, whole_length}
 use Rattle.terms.proofs.Readings.{term_scan, term_bytes, term_written, term_short, scan_term}

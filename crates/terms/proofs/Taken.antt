@@ -5,7 +5,7 @@ use Rattle.calculus.specs.Trees.{terminated}
 use Rattle.calculus.specs.Trees as trees
 use Rattle.terms.specs.declared.head.Head.{Head}
 use Rattle.terms.specs.declared.head.Head.TheVariants.{Terminated, Output, Input, Choice, Parallel, Restriction, Replication}
-use Rattle.terms.specs.declared.head.Parts.TheVariants.{Zero, One, Two}
+use Rattle.terms.specs.declared.head.Parts.TheVariants.{One, Two}
 use Rattle.terms.specs.Heads.{built, size_of, objects_of, binds_of, parts_of, head_of, objects_in}
 use Rattle.terms.specs.Reading.{scan, is_term, tree_of, size_in, AreTwo}
 use Rattle.terms.proofs.Nodes.{zero_made, one_term, one_made, two_terms, parts_made}
