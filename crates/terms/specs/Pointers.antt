@@ -47,7 +47,7 @@ is_counted top depth pointer = pointer == top + depth
 unfoldable pub passes_255 : Renaming → ℕ → ℕ → Bool
 passes_255 renaming depth pointer = nat_lt 255 (function_of renaming depth pointer)
 
--- a closure makes a test of a depth and a pointer
+-- what a closure answers, of a depth and a pointer that fit their types, is what the test says
 abbrev pub Tests : (ℕ → ℕ → Bool → Type 0) → (ℕ → ℕ → Bool) → Type 0
 Tests post test = (depth pointer : ℕ) (answer : Bool) → depth < 2 ^ 64 → pointer < 256 → post depth pointer answer → answer ≡ test depth pointer
 
