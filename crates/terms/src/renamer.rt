@@ -10,23 +10,23 @@ use crate::names::Renaming;
 // A renaming, and how many names are bound above the bytes that it renames.
 #[derive(Clone, Copy)]
 pub(crate) struct Renamer<'a> {
-    pub(crate) renaming: Renaming<'a>,
+    pub(crate) renaming: &'a Renaming<'a>,
     pub(crate) depth: usize,
 }
 
 impl Renamer<'_> {
     // What becomes of a pointer, which stays where it would pass 255.
     #[tactic(auto, unfolding(crate::specs::Pointers::settled))]
-    fn settle(&self, pointer: u8) -> u8
-        ensures { result ≡ settled (function_of self.now.renaming self.now.depth) pointer }
+    fn settle(self, pointer: u8) -> u8
+        ensures { result ≡ settled (function_of self.entry.renaming.now self.entry.depth) pointer }
     {
         u8::try_from(self.renaming.apply(self.depth, pointer)).unwrap_or(pointer)
     }
 
     // Renames a row of pointers.
     #[tactic(auto, using(std::proofs::lemmas::Grind::common_steps, std::proofs::lemmas::List::Edits::map_over_more))]
-    fn rename_row(&self, pointers: &mut [u8])
-        ensures { pointers.new ≡ map (settled (function_of self.now.renaming self.now.depth)) pointers.old }
+    fn rename_row(self, pointers: &mut [u8])
+        ensures { pointers.new ≡ map (settled (function_of self.entry.renaming.now self.entry.depth)) pointers.old }
     {
         for pointer in pointers.iter_mut() {
             *pointer = self.settle(*pointer);
@@ -35,9 +35,9 @@ impl Renamer<'_> {
 
     // Renames the pointers of the head at the start itself.
     #[tactic(auto, using(crate::proofs::Scanned::head_size))]
-    fn rename_head(&self, head: Head, bytes: &mut [u8])
+    fn rename_head(self, head: Head, bytes: &mut [u8])
         requires { head_of bytes.old ≡ Ok head }
-        ensures { bytes.new ≡ head_renamed (settled (function_of self.now.renaming self.now.depth)) head bytes.old }
+        ensures { bytes.new ≡ head_renamed (settled (function_of self.entry.renaming.now self.entry.depth)) head bytes.old }
     {
         let size = head.size();
         self.rename_row(&mut bytes[1..1 + head.subjects()]);
@@ -45,12 +45,12 @@ impl Renamer<'_> {
     }
 
     // Renames every pointer of the process at the start, none of which would pass 255, and answers how many bytes it takes.
-    pub(crate) fn rename(&self, bytes: &mut [u8]) -> usize
-        requires clear { IsSome (clear_of (passes_255 self.now.renaming) self.now.depth (scan bytes.old)) }
-        requires countable { self.now.depth + 8 * length bytes.old < 2 ^ 32 }
-        ensures size { Some result ≡ clear_of (passes_255 self.now.renaming) self.now.depth (scan bytes.old) }
+    pub(crate) fn rename(self, bytes: &mut [u8]) -> usize
+        requires clear { IsSome (clear_of (passes_255 self.renaming.now) self.depth (scan bytes.old)) }
+        requires countable { self.depth + 8 * length bytes.old < 2 ^ 32 }
+        ensures size { Some result ≡ clear_of (passes_255 self.entry.renaming.now) self.entry.depth (scan bytes.old) }
         ensures room { result ≤ length bytes.old }
-        ensures renamed { bytes.new ≡ renamed_at_start (function_of self.now.renaming) self.now.depth (scan bytes.old) }
+        ensures renamed { bytes.new ≡ renamed_at_start (function_of self.entry.renaming.now) self.entry.depth (scan bytes.old) }
     {
         let Ok(head) = Head::read(bytes) else {
             unreachable()

@@ -18,10 +18,10 @@ use refusal::{Fault, Refusal};
 
 // Whether a pointer of the head at the start, its subject or an object, passes a test.
 #[tactic(auto, using(crate::proofs::Scanned::head_size))]
-fn head_passes<F: Fn(usize, u8) -> bool>(head: Head, stretch: &Stretch<'_>, test: &F) -> bool
-    requires head { head_of stretch.now.bytes.now ≡ Ok head }
+fn head_passes<F: Fn(usize, u8) -> bool>(head: Head, stretch: Stretch<'_>, test: &F) -> bool
+    requires head { head_of stretch.bytes.now ≡ Ok head }
     requires callable { F.IsAlwaysCallable test.now }
-    ensures { (known : ℕ → ℕ → Bool) → Tests (F.post test.now) known → result ≡ (any_of (known stretch.now.bound) (subject_in head) || any_of (known stretch.now.bound) (objects_in head stretch.now.bytes.now)) }
+    ensures { (known : ℕ → ℕ → Bool) → Tests (F.post test.now) known → result ≡ (any_of (known stretch.entry.bound) (subject_in head) || any_of (known stretch.entry.bound) (objects_in head stretch.entry.bytes.now)) }
 {
     let size = head.size();
     let subject = &stretch.bytes[1..1 + head.subjects()];
@@ -30,10 +30,10 @@ fn head_passes<F: Fn(usize, u8) -> bool>(head: Head, stretch: &Stretch<'_>, test
 }
 
 // How many bytes the process at the start takes, if none of its pointers, each at its depth, passes a test.
-fn clear<F: Fn(usize, u8) -> bool>(stretch: &Stretch<'_>, test: &F) -> Option<usize>
+fn clear<F: Fn(usize, u8) -> bool>(stretch: Stretch<'_>, test: &F) -> Option<usize>
     requires { F.IsAlwaysCallable test.now }
-    ensures answer { (known : ℕ → ℕ → Bool) → Tests (F.post test.now) known → result ≡ clear_of known stretch.now.bound (scan stretch.now.bytes.now) }
-    ensures room { IfSome result (λ size. size ≤ length stretch.now.bytes.now) }
+    ensures answer { (known : ℕ → ℕ → Bool) → Tests (F.post test.now) known → result ≡ clear_of known stretch.entry.bound (scan stretch.entry.bytes.now) }
+    ensures room { IfSome result (λ size. size ≤ length stretch.entry.bytes.now) }
 {
     let (head, rest) = stretch.split_head()?;
     if head_passes(head, stretch, test) {
@@ -42,10 +42,10 @@ fn clear<F: Fn(usize, u8) -> bool>(stretch: &Stretch<'_>, test: &F) -> Option<us
     let size = head.size();
     match head.parts() {
         Parts::Zero => Some(size),
-        Parts::One => Some(size + clear(&rest, test)?),
+        Parts::One => Some(size + clear(rest, test)?),
         Parts::Two => {
-            let first = clear(&rest, test)?;
-            let second = clear(&rest.skip(first), test)?;
+            let first = clear(rest, test)?;
+            let second = clear(rest.skip(first), test)?;
             Some(size + first + second)
         }
     }
@@ -58,7 +58,7 @@ impl Term<'_> {
     {
         let top = usize::from(pointer);
         let counted = |depth, pointer: u8| usize::from(pointer).checked_sub(depth) == Some(top);
-        clear(&Stretch::of(self), &counted).is_none()
+        clear(Stretch::of(self), &counted).is_none()
     }
 
     // Whether a pointer would pass 255 by the renaming.
@@ -66,7 +66,7 @@ impl Term<'_> {
         ensures { result ≡ not (are_bytes (write (rename (function_of renaming.entry) 0 (tree self.now)))) }
     {
         let passes_255 = |depth, pointer: u8| renaming.apply(depth, pointer) > 255;
-        clear(&Stretch::of(self), &passes_255).is_none()
+        clear(Stretch::of(self), &passes_255).is_none()
     }
 
     // Writes the renamed term to the start of `out`, and answers its length, which is that of the term.
@@ -86,7 +86,10 @@ impl Term<'_> {
         }
         let start = &mut out[0..size];
         start.copy_from_slice(bytes);
-        let renamer = Renamer { renaming, depth: 0 };
+        let renamer = Renamer {
+            renaming: &renaming,
+            depth: 0,
+        };
         Ok(renamer.rename(start))
     }
 }

@@ -4,19 +4,19 @@ use Rattle.terms.proofs.walks.+clear.Goals as goal
 
 pub returns-in_err-head-clause-answer : goal.returns-in_err-head-clause-answer
 returns-in_err-head-clause-answer g t c known tests =
-    c.from_residual.ensures ∙ sym (clear_none known c.args.stretch.now.bound c.args.stretch.now.bytes.now (c.in_err-head.ensures.none.0 refl))
+    c.from_residual.ensures ∙ sym (clear_none known c.args.stretch.bound c.args.stretch.bytes.now (c.in_err-head.ensures.none.0 refl))
 
 pub returns-then-head_passes-clause-answer : goal.returns-then-head_passes-clause-answer
 returns-then-head_passes-clause-answer g t c known tests =
     rw (
-      clear_node known c.args.stretch.now.bound _ _ _ c.in_ok-head.ensures.head (c.head_passes.ensures known tests),
+      clear_node known c.args.stretch.bound _ _ _ c.in_ok-head.ensures.head (c.head_passes.ensures known tests),
       c.if-head_passes.true,
     )
 
 pub returns-in-Zero-clause-answer : goal.returns-in-Zero-clause-answer
 returns-in-Zero-clause-answer g t c known tests =
     rw (
-      clear_node known c.args.stretch.now.bound _ _ _ c.in_ok-head.ensures.head (c.head_passes.ensures known tests),
+      clear_node known c.args.stretch.bound _ _ _ c.in_ok-head.ensures.head (c.head_passes.ensures known tests),
       c.if-head_passes.false,
       ← c.in-Zero.ensures,
       ← c.size-size.ensures,
@@ -25,7 +25,7 @@ returns-in-Zero-clause-answer g t c known tests =
 pub returns-in_err-clear-in-One-clause-answer : goal.returns-in_err-clear-in-One-clause-answer
 returns-in_err-clear-in-One-clause-answer g t c known tests =
     rw (
-      clear_node known c.args.stretch.now.bound _ _ _ c.in_ok-head.ensures.head (c.head_passes.ensures known tests),
+      clear_node known c.args.stretch.bound _ _ _ c.in_ok-head.ensures.head (c.head_passes.ensures known tests),
       c.if-head_passes.false,
       ← c.in-One.ensures,
       ← c.in_ok-head.ensures.bound,
@@ -36,7 +36,7 @@ returns-in_err-clear-in-One-clause-answer g t c known tests =
 pub returns-in_ok-clear-in-One-clause-answer : goal.returns-in_ok-clear-in-One-clause-answer
 returns-in_ok-clear-in-One-clause-answer g t c known tests =
     rw (
-      clear_node known c.args.stretch.now.bound _ _ _ c.in_ok-head.ensures.head (c.head_passes.ensures known tests),
+      clear_node known c.args.stretch.bound _ _ _ c.in_ok-head.ensures.head (c.head_passes.ensures known tests),
       c.if-head_passes.false,
       ← c.in-One.ensures,
       ← c.in_ok-head.ensures.bound,
@@ -48,7 +48,7 @@ returns-in_ok-clear-in-One-clause-answer g t c known tests =
 pub returns-in_err-first-in-Two-clause-answer : goal.returns-in_err-first-in-Two-clause-answer
 returns-in_err-first-in-Two-clause-answer g t c known tests =
     rw (
-      clear_node known c.args.stretch.now.bound _ _ _ c.in_ok-head.ensures.head (c.head_passes.ensures known tests),
+      clear_node known c.args.stretch.bound _ _ _ c.in_ok-head.ensures.head (c.head_passes.ensures known tests),
       c.if-head_passes.false,
       ← c.in-Two.ensures,
       ← c.in_ok-head.ensures.bound,
@@ -59,7 +59,7 @@ returns-in_err-first-in-Two-clause-answer g t c known tests =
 pub returns-in_err-second-in-Two-clause-answer : goal.returns-in_err-second-in-Two-clause-answer
 returns-in_err-second-in-Two-clause-answer g t c known tests =
     rw (
-      clear_node known c.args.stretch.now.bound _ _ _ c.in_ok-head.ensures.head (c.head_passes.ensures known tests),
+      clear_node known c.args.stretch.bound _ _ _ c.in_ok-head.ensures.head (c.head_passes.ensures known tests),
       c.if-head_passes.false,
       ← c.in-Two.ensures,
       ← c.in_ok-head.ensures.bound,
@@ -73,7 +73,7 @@ returns-in_err-second-in-Two-clause-answer g t c known tests =
 pub returns-in_ok-second-in-Two-clause-answer : goal.returns-in_ok-second-in-Two-clause-answer
 returns-in_ok-second-in-Two-clause-answer g t c known tests =
     rw (
-      clear_node known c.args.stretch.now.bound _ _ _ c.in_ok-head.ensures.head (c.head_passes.ensures known tests),
+      clear_node known c.args.stretch.bound _ _ _ c.in_ok-head.ensures.head (c.head_passes.ensures known tests),
       c.if-head_passes.false,
       ← c.in-Two.ensures,
       ← c.in_ok-head.ensures.bound,

@@ -5,4 +5,4 @@ use Rattle.terms.proofs.renamer.Renamer.rename_row.Given as goal
 abbrev pub invariant-loop-pointer : goal.invariant-loop-pointer
 invariant-loop-pointer l =
     l.pointers
-    ≡ map (settled (function_of l.self.renaming l.self.depth)) (take l.pointer-index l.initial.pointers) ++ drop l.pointer-index l.initial.pointers
+    ≡ map (settled (function_of l.self.renaming.now l.self.depth)) (take l.pointer-index l.initial.pointers) ++ drop l.pointer-index l.initial.pointers
