@@ -36,6 +36,7 @@ fn copy_payloads(blocks: &[[u8; BLOCK]], out: &mut [u8])
     requires room { length (flat_map payload_of blocks.now) ≤ length out.old }
     ensures { out.new ≡ flat_map payload_of blocks.now ++ drop (length (flat_map payload_of blocks.now)) out.old }
 {
+    // The place is counted: of a buffer that an iterator or a moving `&mut` has lent, no proof knows the bytes.
     let mut end = 0;
     for block in blocks {
         let payload = payload(block);
@@ -47,6 +48,7 @@ fn copy_payloads(blocks: &[[u8; BLOCK]], out: &mut [u8])
 
 // Opens blocks into the start of `out`, and answers how long their stream is.
 pub fn unpack(blocks: &[u8], out: &mut [u8]) -> Result<usize, Fault>
+    // What is answered and what is left are facts about the call, not about a value: two words say them wherever a call writes.
     ensures answer { result ≡ answered (unpacking blocks.now (length out.old)) }
     ensures buffer { out.new ≡ left (unpacking blocks.now (length out.old)) out.old }
 

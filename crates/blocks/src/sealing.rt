@@ -7,7 +7,7 @@ ghost use Rattle.blocks.specs.Sealing.{block, packing};
 use crate::{BLOCK, FRONT, HEADER, LONGEST_STREAM, PAYLOAD, check};
 use refusal::{Fault, Refusal};
 
-// Writes the block of that number and payload over `out`.
+// Writes the block of that number and payload over `out`, a part of a buffer: a slice, so that its length has to be asked.
 fn seal_block(number: u16, payload: &[u8], out: &mut [u8])
     requires short { length payload.now ≤ 504 }
     requires whole { length out.old ≡ 512 }
@@ -24,6 +24,7 @@ fn seal_block(number: u16, payload: &[u8], out: &mut [u8])
 
 // Seals a stream into blocks at the start of `out`, and answers how many bytes they have.
 pub fn pack(stream: &[u8], out: &mut [u8]) -> Result<usize, Fault>
+    // What is answered and what is left are facts about the call, not about a value: two words say them wherever a call writes.
     ensures answer { result ≡ answered (packing stream.now (length out.old)) }
     ensures buffer { out.new ≡ left (packing stream.now (length out.old)) out.old }
 

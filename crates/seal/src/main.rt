@@ -38,7 +38,7 @@ fn read_stream(rt: &HostRuntime, path: &str) -> io::Result<Vec<u8>> {
 }
 
 // Writes a file beside the sheet first, so that a failure leaves no half of a sheet and an older sheet as it was.
-fn write_sheet(rt: &HostRuntime, sheet: Contents) -> io::Result<()> {
+fn write_sheet(rt: &HostRuntime, sheet: Contents<'_>) -> io::Result<()> {
     let Contents { path, bytes } = sheet;
     let part = format!(in rt.alloc(); "{path}.part")?;
     let mut file = File::create_new(rt, part.as_str())?;
@@ -51,7 +51,7 @@ fn write_sheet(rt: &HostRuntime, sheet: Contents) -> io::Result<()> {
     written
 }
 
-fn print_report(rt: &HostRuntime, stream: Contents, sheet: Contents) -> io::Result<()> {
+fn print_report(rt: &HostRuntime, stream: Contents<'_>, sheet: Contents<'_>) -> io::Result<()> {
     println!(rt; "{}: length {}", stream.path, stream.bytes.len())?;
     let Contents { path, bytes } = sheet;
     let (blocks, _) = bytes.as_chunks::<BLOCK>();

@@ -3,7 +3,6 @@ ghost use Rattle.std.specs.Prelude.{◌≡◌, ◌↔◌, ◌≤◌, length, IfO
 ghost use Rattle.refusal.specs.Writes.{answered, left};
 ghost use Rattle.blocks.specs.Opening.{opened};
 ghost use Rattle.blocks.specs.Sealing.{packing};
-ghost use Rattle.seal.specs.declared.sealing.Unsealed.TheVariants.{Declined};
 ghost use Rattle.seal.specs.Sealed.{sealed_as};
 
 use blocks::{LONGEST_STREAM, pack, unpack};
@@ -19,15 +18,6 @@ pub enum Unsealed {
     OpensOtherwise,
 }
 
-// By hand, since a clause names the error that `?` makes, which a derived impl does not say.
-impl From<Fault> for Unsealed {
-    ghost from_gives = { λ f r. r ≡ Declined f };
-
-    fn from(fault: Fault) -> Unsealed {
-        Unsealed::Declined(fault)
-    }
-}
-
 // Whether the blocks open to the stream.
 fn opens_to(sheet: &[u8], stream: &[u8]) -> bool
     ensures { IsTrue result ↔ (opened sheet.now ≡ Ok stream.now) }
@@ -38,14 +28,16 @@ fn opens_to(sheet: &[u8], stream: &[u8]) -> bool
 }
 
 // Seals a stream into blocks at the start of `sheet`, opens them again and compares; answers their length.
+#[tactic(auto, unfolding(crate::specs::Sealed::sealed_as))]
 pub fn seal_stream(stream: &[u8], sheet: &mut [u8]) -> Result<usize, Unsealed>
+    // Answered and left as by `pack`.
     ensures answer { result ≡ sealed_as (answered (packing stream.now (length sheet.old))) }
     ensures buffer { sheet.new ≡ left (packing stream.now (length sheet.old)) sheet.old }
 
     // As in `pack`: said again in numbers, for callers that cut the buffer.
     ensures room { IfOk result (λ n. n ≤ length sheet.old) }
 {
-    let size = pack(stream, sheet)?;
+    let size = pack(stream, sheet).map_err(Unsealed::Declined)?;
     if opens_to(&sheet[0..size], stream) {
         Ok(size)
     } else {

@@ -7,8 +7,7 @@ use Rattle.refusal.specs.declared.Refusal.TheVariants.{TermTooLong, NotOneTerm}
 use Rattle.refusal.specs.Writes.{fault}
 use Rattle.terms.specs.declared.term.Term.{Term}
 use Rattle.terms.specs.Fitting.{are_bytes, Fits, LongestStart}
-use Rattle.terms.specs.Heads.{head_of, built, objects_in}
-use Rattle.terms.specs.Reading.{Scanned, whole, stuck, scan, scan_with, onward, grown, rest_of, alone, reading, is_term, tree_of}
+use Rattle.terms.specs.Reading.{Scanned, whole, stuck, scan, rest_of, alone, reading, is_term, tree_of}
 use Rattle.terms.specs.Views.{bytes_of, outcome_of, read_as}
 use Rattle.terms.proofs.Readings.{reading_alone, reading_long, reading_refused, decides_fits, term_reading, term_short}
 
@@ -102,8 +101,3 @@ module _ (ns : List ℕ) (f : Fault) (is : reading ns ≡ Err f) (r : Result Ter
       let (place, was, longest) = reading_refused ns bytes short unfit in
       let same : f ≡ fault NotOneTerm place = cc (is, was) in
       (place, told ∙ ap (λ (g : Fault). Err g) same, longest)
-
--- the terminated term is one
-pub nothing_term : is_term (0 ∷ []) ≡ true
-unfolding is_term reading are_bytes alone scan scan_with onward grown head_of built objects_in
-nothing_term = refl

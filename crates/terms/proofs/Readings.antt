@@ -128,10 +128,6 @@ reading_term ns p e = ap is_ok e
 pub scan_term : (ns : List ℕ) (p : Process) → scan ns ≡ whole p [] → are_bytes ns ≡ true → length ns ≤ 4096 → is_term ns ≡ true
 scan_term ns p e bytes short = reading_term ns p (scan_reading ns p e bytes short)
 
-pub tree_written : (p : Process) → counts_fit p ≡ true → tree_of (write p) ≡ p
-unfolding tree_of process_in
-tree_written p counts = ap process_in (written_whole p counts)
-
 pub fits_term : (p : Process) → fits p ≡ true → is_term (write p) ≡ true
 fits_term p e = reading_term (write p) p (fits_reading p e)
 

@@ -67,7 +67,8 @@ fn sent(objects: &[u8], depth: usize, pointer: usize) -> usize
     }
 }
 
-// Whether some pointer of a row, all at one depth, passes a test.
+// Whether some pointer of a row, all at one depth, passes a test. What is asked of a closure, and what is promised of it, is said in each function
+// that takes it: no type that could say it once is as plain as these two words.
 pub(crate) fn any_passes<F: Fn(usize, u8) -> bool>(test: &F, depth: usize, pointers: &[u8]) -> bool
     requires { F.IsAlwaysCallable test.now }
     ensures { (known : ℕ → ℕ → Bool) → Tests (F.post test.now) known → result ≡ any_of (known depth) pointers.now }

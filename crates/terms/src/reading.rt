@@ -17,6 +17,7 @@ pub const LONGEST_TERM: usize = 4096;
 pub(crate) fn past(bytes: &[u8]) -> Result<&[u8], &[u8]>
     ensures { seen result ≡ rest_of (scan bytes.now) }
 {
+    // A match: with `map_err` and `?` no proof was found of which bytes the error has.
     match Head::read(bytes) {
         Err(place) => Err(&bytes[place..]),
         Ok(head) => {
@@ -52,6 +53,7 @@ fn examine(bytes: &[u8]) -> Result<(), Fault>
     let refusal = Refusal::NotOneTerm;
     match past(bytes) {
         Ok(rest) if rest.is_empty() => Ok(()),
+        // Two arms with one body: joined by `|`, their facts have no names that a proof can cite.
         Ok(rest) => Err(refusal.at(size - rest.len())),
         Err(rest) => Err(refusal.at(size - rest.len())),
     }

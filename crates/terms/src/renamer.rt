@@ -7,7 +7,8 @@ ghost use Rattle.terms.specs.Reading.{scan};
 use crate::head::{Head, Parts};
 use crate::names::Renaming;
 
-// A renaming, and how many names are bound above the bytes that it renames.
+// A renaming, and how many names are bound above the bytes that it renames. The renaming is borrowed, so that both stay in
+// registers on the way down.
 #[derive(Clone, Copy)]
 pub(crate) struct Renamer<'a> {
     pub(crate) renaming: &'a Renaming<'a>,
@@ -47,6 +48,7 @@ impl Renamer<'_> {
     // Renames every pointer of the process at the start, none of which would pass 255, and answers how many bytes it takes.
     pub(crate) fn rename(self, bytes: &mut [u8]) -> usize
         requires clear { IsSome (clear_of (passes_255 self.renaming.now) self.depth (scan bytes.old)) }
+        // The depth can be counted to the end of the bytes. No field can say so, since the bytes are borrowed mutably.
         requires countable { self.depth + 8 * length bytes.old < 2 ^ 32 }
         ensures size { Some result ≡ clear_of (passes_255 self.entry.renaming.now) self.entry.depth (scan bytes.old) }
         ensures room { result ≤ length bytes.old }

@@ -12,7 +12,7 @@ pub struct Term<'a> {
 }
 
 // Bytes that were read before.
-pub(crate) fn known<'a>(bytes: &'a [u8]) -> Term<'a>
+pub(crate) fn known(bytes: &[u8]) -> Term<'_>
     requires { is_term bytes.now ≡ true }
     ensures { result.bytes.now ≡ bytes.now }
 {
@@ -20,6 +20,7 @@ pub(crate) fn known<'a>(bytes: &'a [u8]) -> Term<'a>
 }
 
 impl<'a> Term<'a> {
+    // These say what they say of the struct, so they are named here and not above it.
     ghost use Rattle.std.specs.Prelude.{IsTrue, ◌↔◌};
     ghost use Rattle.terms.specs.Views.{bytes_of, tree};
 

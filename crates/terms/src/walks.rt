@@ -1,12 +1,12 @@
 // Walks over the pointers of a term: is one there, and what becomes of all.
-ghost use Rattle.std.specs.Prelude.{◌≡◌, ℕ, ◌+◌, ◌*◌, ◌^◌, ◌<◌, ◌≤◌, Bool, true, false, not, ◌||◌, List, ◌++◌, length, take, IfSome, IsSome, Some, IfOk, Ok};
-ghost use Rattle.calculus.specs.Trees.{Process, write};
+ghost use Rattle.std.specs.Prelude.{◌≡◌, ℕ, ◌≤◌, Bool, true, not, ◌||◌, length, take, IfSome, IfOk, Ok};
+ghost use Rattle.calculus.specs.Trees.{write};
 ghost use Rattle.calculus.specs.Names.{rename, free};
 ghost use Rattle.refusal.specs.Writes.{answered, left, within};
 ghost use Rattle.terms.specs.Fitting.{are_bytes};
-ghost use Rattle.terms.specs.Heads.{head_of, subject_in, objects_in, head_renamed};
-ghost use Rattle.terms.specs.Pointers.{function_of, settled, renamed, any_of, any_pointer, passes_255, clear_of, renamed_at_start, Tests};
-ghost use Rattle.terms.specs.Reading.{scan, whole, is_term};
+ghost use Rattle.terms.specs.Heads.{head_of, subject_in, objects_in};
+ghost use Rattle.terms.specs.Pointers.{function_of, renamed, any_of, clear_of, Tests};
+ghost use Rattle.terms.specs.Reading.{scan, is_term};
 ghost use Rattle.terms.specs.Views.{bytes_of, tree};
 
 use crate::head::{Head, Parts};
@@ -71,6 +71,7 @@ impl Term<'_> {
 
     // Writes the renamed term to the start of `out`, and answers its length, which is that of the term.
     pub fn rename(&self, renaming: Renaming<'_>, out: &mut [u8]) -> Result<usize, Fault>
+        // What is answered and what is left are facts about the call, not about a value: two words say them wherever a call writes.
         ensures answer { result ≡ answered (within (length out.old) (renamed (function_of renaming.entry) (tree self.now))) }
         ensures buffer { out.new ≡ left (within (length out.old) (renamed (function_of renaming.entry) (tree self.now))) out.old }
         ensures size { IfOk result (λ n. n ≡ length (bytes_of self.now)) }

@@ -307,7 +307,7 @@ fn a_buffer_must_be_long_enough(rt: HostRuntime) {
     assert_eq!(rt; short[0], OLD);
     let mut out = [OLD; 10];
     assert_eq!(rt; sample.rename(Renaming::Raise, &mut out), Ok(10));
-    assert!(rt; &out[0..10] == &[4, 1, 1, 1, 2, 0, 2, 1, 1, 0][0..10]);
+    assert!(rt; out == [4, 1, 1, 1, 2, 0, 2, 1, 1, 0]);
 }
 
 // The deepest term: each of 4,095 nodes below the one before.
@@ -318,7 +318,7 @@ fn the_deepest_term_has_stack_enough(rt: HostRuntime) {
     let deepest = term(&rt, &bytes);
     let mut out = [OLD; LONGEST_TERM];
     assert_eq!(rt; deepest.rename(Renaming::Raise, &mut out), Ok(4096));
-    assert!(rt; &out[0..4096] == &bytes[0..4096]);
+    assert!(rt; out == bytes);
     assert!(rt; !deepest.has_free(0));
     assert_eq!(rt; deepest.find(4095), found(4095, 4096, 0, false));
     // and one that is deep on the left: 2,047 parallels, then 2,049 terminated, of which one is left over
