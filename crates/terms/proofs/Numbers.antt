@@ -1,17 +1,14 @@
 -- Numbers that are bytes, in lists made of others.
-use Rattle.std.proofs.Common.{◌≡◌, ℕ, zero, suc, ◌<◌, ◌≤◌, Bool, true, false, ◌&&◌, leb, List, [], ◌∷◌, ◌++◌, get_or, take, drop, replicate, sym, refl, ap, ◌∙◌, arith}
+use Rattle.std.proofs.Common.{◌≡◌, ℕ, zero, suc, ◌<◌, ◌≤◌, true, ◌&&◌, leb, List, [], ◌∷◌, ◌++◌, get_or, take, drop, replicate, sym, refl, ap, ◌∙◌, arith}
 use Rattle.std.proofs.lemmas.List.{take-append-drop}
 use Rattle.std.proofs.lemmas.Bool.{and_parts, and_from, le-leb}
+use Rattle.std.proofs.Math.Bool.{and_assoc}
 use Rattle.terms.specs.Fitting.{are_bytes}
-
-and_assoc : (a b c : Bool) → (a && (b && c)) ≡ ((a && b) && c)
-and_assoc true b c = refl
-and_assoc false b c = refl
 
 pub bytes_append : (ms ns : List ℕ) → are_bytes (ms ++ ns) ≡ (are_bytes ms && are_bytes ns)
 unfolding are_bytes
 bytes_append [] ns = refl
-bytes_append (m ∷ ms) ns = ap (◌&&◌ (leb m 255)) (bytes_append ms ns) ∙ and_assoc (leb m 255) (are_bytes ms) (are_bytes ns)
+bytes_append (m ∷ ms) ns = ap (◌&&◌ (leb m 255)) (bytes_append ms ns) ∙ sym (and_assoc (leb m 255) (are_bytes ms) (are_bytes ns))
 
 pub bytes_left : (ms ns : List ℕ) → are_bytes (ms ++ ns) ≡ true → are_bytes ms ≡ true
 bytes_left ms ns e = (and_parts (are_bytes ms) (are_bytes ns) (sym (bytes_append ms ns) ∙ e)).0

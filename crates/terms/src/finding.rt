@@ -32,7 +32,7 @@ struct Found {
 }
 
 // Goes in search of an offset through the process at the start: breaks off with the node there, if there is one, and
-// goes on after so many bytes where the process ends before the offset.
+// goes on after so many bytes where the process ends before the offset (`passed` is said as `room` in `size_at_start`).
 fn locate(stretch: Stretch<'_>, offset: usize, active: bool) -> ControlFlow<Option<Found>, usize>
     ensures answer { (p : Process) (ns : List ℕ) → scan stretch.entry.bytes.now ≡ whole p ns → result ≡ located_in offset stretch.entry.bound active p }
     ensures passed { ForContinue result (λ size. (size ≤ offset) × (size ≤ length stretch.entry.bytes.now)) }

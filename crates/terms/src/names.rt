@@ -36,7 +36,8 @@ impl Renaming<'_> {
     }
 }
 
-// The two pointers from the depth on trade places.
+// The two pointers from the depth on trade places. Depth and pointer are two numbers, as in the definition: a struct of both
+// would be taken apart at once.
 #[tactic(auto, unfolding(calculus::specs::Names::exchange))]
 fn traded(depth: usize, pointer: usize) -> usize
     requires free { depth ≤ pointer }
@@ -59,16 +60,14 @@ fn sent(objects: &[u8], depth: usize, pointer: usize) -> usize
     requires small { pointer < 256 }
     ensures { result ≡ send objects.now depth pointer }
 {
-    let index = pointer - depth;
-    if index < objects.len() {
-        usize::from(objects[index]) + depth
-    } else {
-        pointer - objects.len()
+    match objects.get(pointer - depth) {
+        Some(object) => usize::from(*object) + depth,
+        None => pointer - objects.len(),
     }
 }
 
-// Whether some pointer of a row, all at one depth, passes a test. What is asked of a closure, and what is promised of it, is said in each function
-// that takes it: no type that could say it once is as plain as these two words.
+// Whether some pointer of a row, all at one depth, passes a test. What is asked of a closure, and what is promised of it, is
+// said in each function that takes it: no type that could say it once is as plain as these two words.
 pub(crate) fn any_passes<F: Fn(usize, u8) -> bool>(test: &F, depth: usize, pointers: &[u8]) -> bool
     requires { F.IsAlwaysCallable test.now }
     ensures { (known : ℕ → ℕ → Bool) → Tests (F.post test.now) known → result ≡ any_of (known depth) pointers.now }

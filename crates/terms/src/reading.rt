@@ -31,7 +31,8 @@ pub(crate) fn past(bytes: &[u8]) -> Result<&[u8], &[u8]>
     }
 }
 
-// How many bytes the process at the start takes, if there is one.
+// How many bytes the process at the start takes, if there is one. `room` follows from `size`: in numbers, a caller may cut the
+// bytes there without a proof of its own.
 pub(crate) fn size_at_start(bytes: &[u8]) -> Option<usize>
     ensures size { result ≡ size_in (scan bytes.now) }
     ensures room { IfSome result (λ n. n ≤ length bytes.now) }

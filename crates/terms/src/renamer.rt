@@ -45,7 +45,8 @@ impl Renamer<'_> {
         self.rename_row(&mut bytes[size - head.objects()..size]);
     }
 
-    // Renames every pointer of the process at the start, none of which would pass 255, and answers how many bytes it takes.
+    // Renames every pointer of the process at the start, none of which would pass 255, and answers how many bytes it takes;
+    // `room` is said as in `size_at_start`.
     pub(crate) fn rename(self, bytes: &mut [u8]) -> usize
         requires clear { IsSome (clear_of (passes_255 self.renaming.now) self.depth (scan bytes.old)) }
         // The depth can be counted to the end of the bytes. No field can say so, since the bytes are borrowed mutably.

@@ -16,7 +16,8 @@ use crate::stretch::Stretch;
 use crate::term::Term;
 use refusal::{Fault, Refusal};
 
-// Whether a pointer of the head at the start, its subject or an object, passes a test.
+// Whether a pointer of the head at the start, its subject or an object, passes a test; of the closure all is said as in
+// `any_passes`.
 #[tactic(auto, using(crate::proofs::Scanned::head_size))]
 fn head_passes<F: Fn(usize, u8) -> bool>(head: Head, stretch: Stretch<'_>, test: &F) -> bool
     requires head { head_of stretch.bytes.now ≡ Ok head }
@@ -29,7 +30,8 @@ fn head_passes<F: Fn(usize, u8) -> bool>(head: Head, stretch: Stretch<'_>, test:
     any_passes(test, stretch.bound, subject) || any_passes(test, stretch.bound, objects)
 }
 
-// How many bytes the process at the start takes, if none of its pointers, each at its depth, passes a test.
+// How many bytes the process at the start takes, if none of its pointers, each at its depth, passes a test; of the closure all
+// is said as in `any_passes`, and `room` is said as in `size_at_start`.
 fn clear<F: Fn(usize, u8) -> bool>(stretch: Stretch<'_>, test: &F) -> Option<usize>
     requires { F.IsAlwaysCallable test.now }
     ensures answer { (known : ℕ → ℕ → Bool) → Tests (F.post test.now) known → result ≡ clear_of known stretch.entry.bound (scan stretch.entry.bytes.now) }

@@ -78,7 +78,7 @@ fn parallels(count: usize) -> [u8; LONGEST_TERM] {
 
 #[test]
 fn a_term_is_read(rt: HostRuntime) {
-    assert!(rt; term(&rt, &SAMPLE).bytes() == &SAMPLE[0..10]);
+    assert!(rt; term(&rt, &SAMPLE).bytes() == SAMPLE.as_slice());
     assert!(rt; read(&[0]).is_ok());
     assert!(rt; read(&[1, 255, 8, 0, 1, 2, 3, 4, 5, 6, 255, 0]).is_ok());
     assert!(rt; read(&[2, 255, 8, 0]).is_ok());
