@@ -13,8 +13,12 @@ use Rattle.terms.specs.declared.head.Parts.TheVariants.{Zero, One, Two}
 use Rattle.terms.specs.declared.names.Renaming.{Renaming}
 use Rattle.terms.specs.Fitting.{counts_fit, are_bytes}
 use Rattle.terms.specs.Heads.{built, size_of, objects_of, binds_of, parts_of, subject_in, renamed_head}
-use Rattle.terms.specs.Pointers.{function_of, any_of, any_pointer, is_counted, passes_255}
+use Rattle.terms.specs.Pointers.{function_of, any_of, any_pointer, passes_255}
 use Rattle.terms.proofs.Numbers.{bytes_append}
+
+-- the pointer is the one that the top counts so
+unfoldable pub is_counted : ℕ → ℕ → ℕ → Bool
+is_counted top depth pointer = eqb pointer (top + depth)
 
 -- A pointer that the top counts so is free where some pointer is that one at its depth.
 among_any : (top d : ℕ) (os : List ℕ) → among (top + d) os ≡ any_of (is_counted top d) os

@@ -1,5 +1,5 @@
 -- What a walk over a term's pointers does and asks.
-use Rattle.std.specs.Prelude.{ℕ, suc, ◌+◌, ◌^◌, ◌<◌, ◌≡◌, Bool, false, cond, ◌||◌, List, [], ◌∷◌, ◌++◌, length, Some, None, Ok, Err, Option, Result, ◌==◌, nat_lt}
+use Rattle.std.specs.Prelude.{ℕ, suc, ◌+◌, ◌^◌, ◌<◌, ◌≡◌, Bool, false, cond, ◌||◌, List, [], ◌∷◌, ◌++◌, length, Some, None, Ok, Err, Option, Result, nat_lt}
 use Rattle.calculus.specs.Trees.{Process, terminated, output, input, choice, parallel, restriction, replication, write}
 use Rattle.calculus.specs.Names.{rename, raise, lower, exchange, send}
 use Rattle.refusal.specs.declared.Fault.{Fault}
@@ -40,10 +40,7 @@ any_pointer test depth (parallel p q) = any_pointer test depth p || any_pointer 
 any_pointer test depth (restriction sort p) = any_pointer test (suc depth) p
 any_pointer test depth (replication p) = any_pointer test depth p
 
--- the tests that walks make: the pointer is that one of the top, or it would pass 255
-unfoldable pub is_counted : ℕ → ℕ → ℕ → Bool
-is_counted top depth pointer = pointer == top + depth
-
+-- the pointer would pass 255
 unfoldable pub passes_255 : Renaming → ℕ → ℕ → Bool
 passes_255 renaming depth pointer = nat_lt 255 (function_of renaming depth pointer)
 

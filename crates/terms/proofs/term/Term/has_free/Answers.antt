@@ -1,8 +1,7 @@
 use Rattle.std.proofs.Common.{sym, ◌∙◌, rules}
-use Rattle.terms.specs.Pointers.{is_counted}
 use Rattle.terms.specs.Views.{tree}
 use Rattle.terms.proofs.Cleared.{clear_told}
-use Rattle.terms.proofs.Pointed.{free_any}
+use Rattle.terms.proofs.Pointed.{is_counted, free_any}
 use Rattle.terms.proofs.term.Term.has_free.Goals as goal
 
 pub returns : goal.returns
