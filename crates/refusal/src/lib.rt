@@ -2,7 +2,8 @@
 // that is handed up from call to call.
 #![tactic(auto)]
 
-ghost use Rattle.std.specs.Prelude.{◌≡◌, Some};
+ghost use Rattle.std.specs.Prelude.{◌≡◌, ◌↔◌, Some, IsTrue, nat_eq};
+ghost use Rattle.std.specs.Ordering.{on};
 ghost use Rattle.refusal.specs.Numbers.{number_of};
 ghost use Rattle.refusal.specs.Words.{words_of};
 ghost use Rattle.refusal.specs.Writes.{fault};
@@ -82,6 +83,14 @@ impl Refusal {
             refusal: self,
             place,
         }
+    }
+
+    // Whether two refusals are the same. `==` is derived; this says what it tells of refusals and of their numbers.
+    pub fn same_as(self, other: Refusal) -> bool
+        ensures by_number { result ≡ on number_of nat_eq self other }
+        ensures same { IsTrue result ↔ (self ≡ other) }
+    {
+        self == other
     }
 
     // The refusal in words, for people: `Display` writes these, and `words_of` says which they are.

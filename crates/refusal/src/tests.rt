@@ -41,6 +41,7 @@ fn each_equals_itself_alone(rt: HostRuntime) {
     for (i, a) in ALL.iter().enumerate() {
         for (k, b) in ALL.iter().enumerate() {
             assert_eq!(rt; *a == *b, i == k);
+            assert_eq!(rt; a.same_as(*b), i == k);
         }
     }
 }
