@@ -1,71 +1,52 @@
 -- A walk that looks for a pointer, node by node.
-use Rattle.std.proofs.Common.{◌≡◌, ℕ, ◌+◌, ◌-◌, Bool, true, false, cond, not, ◌||◌, List, ◌++◌, length, take, drop, is_some, is_err, Some, None, Ok, Err, Option, Result, sym, refl, ap, ◌∙◌, ap₂, arith}
+use Rattle.std.proofs.Common.{◌≡◌, ℕ, ◌+◌, ◌-◌, ◌≤◌, Bool, true, false, cond, not, ◌||◌, ◌⊎◌, inl, inr, List, [], ◌∷◌, length, drop, is_some, is_err, Some, None, Ok, Err, Option, Result, sym, refl, ap, ◌∙◌, ap₂, arith}
 use Rattle.std.proofs.Math.Bool.{or_assoc, or-false}
 use Rattle.std.proofs.lemmas.Bool.{false≢true, not-true, not-false}
+use Rattle.std.proofs.lemmas.List.{length-drop}
 use Rattle.std.specs.Option.{IsSome, option_map, option_and_then}
 use Rattle.std.specs.Result.{IsErr}
 use Rattle.calculus.specs.Trees.{Process, terminated, write}
 use Rattle.terms.specs.declared.head.Head.{Head}
-use Rattle.terms.specs.declared.head.Head.TheVariants.{Terminated, Output, Input, Choice, Parallel, Restriction, Replication}
+use Rattle.terms.specs.declared.head.Head.TheVariants.{Terminated, Choice, Parallel, Restriction, Replication}
 use Rattle.terms.specs.declared.head.Parts.{Parts}
 use Rattle.terms.specs.declared.head.Parts.TheVariants.{Zero, One, Two}
-use Rattle.terms.specs.Heads.{built, size_of, subjects_of, objects_of, binds_of, parts_of, head_of, objects_in, subject_in, front}
+use Rattle.terms.specs.Heads.{built, size_of, objects_of, binds_of, parts_of, head_of, objects_in, subject_in}
 use Rattle.terms.specs.Reading.{Scanned, whole, stuck, wrapped, secondly, grown, scan, is_term, tree_of}
-use Rattle.terms.specs.Pointers.{any_of, any_pointer, clear_of}
+use Rattle.terms.specs.Pointers.{any_of, any_pointer, clear_of, left_of}
 use Rattle.terms.proofs.Found.{length_zero, length_one, length_two}
-use Rattle.terms.proofs.Parted.{after_whole}
+use Rattle.terms.proofs.Parted.{after_whole, whole_length}
 use Rattle.terms.proofs.Pointed.{any_part, any_built}
 use Rattle.terms.proofs.Readings.{term_scan}
-use Rattle.terms.proofs.Scanned.{head_opens, head_size, scan_head, scan_none}
+use Rattle.terms.proofs.Scanned.{head_opens, scan_head, scan_none}
 
--- the bytes of a head where they are tested
-pub subject_row : (ns : List ℕ) (h : Head) → head_of ns ≡ Ok h → take (subjects_of h) (drop 1 ns) ≡ subject_in h
-unfolding subject_in
-subject_row ns h e = ap (λ (x : List ℕ). take (subjects_of h) (drop 1 x)) (head_opens ns h e).cut ∙ by_head h
-  where
-    by_head : (k : Head) → take (subjects_of k) (drop 1 (front k (objects_in k ns) ++ drop (size_of k) ns)) ≡ subject_in k
-    by_head Terminated = refl
-    by_head (Output s n) = refl
-    by_head (Input s n) = refl
-    by_head Choice = refl
-    by_head Parallel = refl
-    by_head (Restriction s) = refl
-    by_head Replication = refl
+-- the pointers of a head are asked one after the other: the subject, and then the objects
+module _ (test : ℕ → Bool) (subject : ℕ) (first : Bool) (asked : first ≡ test subject) where
+  pub subject_passes : (rest : Bool) → first ≡ true → first ≡ (any_of test (subject ∷ []) || rest)
+  unfolding any_of
+  subject_passes rest e = e ∙ ap (λ (b : Bool). (b || false) || rest) (sym e ∙ asked)
 
-pub object_row : (ns : List ℕ) (h : Head) → take (objects_of h) (drop (size_of h - objects_of h) ns) ≡ objects_in h ns
-unfolding objects_in
-object_row ns Terminated = refl
-object_row ns (Output s n) = let three : 3 + n - n ≡ 3 = omega arith in ap (λ (k : ℕ). take n (drop k ns)) three
-object_row ns (Input s n) = refl
-object_row ns Choice = refl
-object_row ns Parallel = refl
-object_row ns (Restriction s) = refl
-object_row ns Replication = refl
+  pub objects_asked : (rest : Bool) → first ≡ false → (second : Bool) → second ≡ rest → second ≡ (any_of test (subject ∷ []) || rest)
+  unfolding any_of
+  objects_asked rest e second then = then ∙ ap (λ (b : Bool). (b || false) || rest) (sym e ∙ asked)
 
--- a part of a slice, by where it begins and how long it is
-pub row_of : (ns : List ℕ) (size at from long : ℕ) → at ≡ from → size ≡ long → take size (drop at ns) ≡ take long (drop from ns)
-row_of ns size at from long a b = ap₂ (λ (j k : ℕ). take j (drop k ns)) b a
+  pub subject_alone : first ≡ (any_of test (subject ∷ []) || any_of test [])
+  unfolding any_of
+  subject_alone = asked ∙ by_test (test subject)
+    where
+      by_test : (b : Bool) → b ≡ ((b || false) || false)
+      by_test true = refl
+      by_test false = refl
 
--- the rows of a head, as the code cuts them, are asked one after the other
-module _ (test : ℕ → Bool) (ns : List ℕ) (h : Head) (is : head_of ns ≡ Ok h) (size subjects objects : ℕ)
-    (size_is : size ≡ size_of h) (subjects_is : subjects ≡ subjects_of h) (objects_is : objects ≡ objects_of h)
-    (first : Bool) (asked : first ≡ any_of test (take (1 + subjects - 1) (drop 1 ns))) where
-  first_is : first ≡ any_of test (subject_in h)
-  first_is =
-      let long : 1 + subjects - 1 ≡ subjects_of h = omega arith in
-      asked ∙ ap (any_of test) (row_of ns (1 + subjects - 1) 1 1 (subjects_of h) refl long ∙ subject_row ns h is)
-
-  pub passed_first : first ≡ true → first ≡ (any_of test (subject_in h) || any_of test (objects_in h ns))
-  passed_first e = e ∙ ap (λ (b : Bool). b || any_of test (objects_in h ns)) (sym e ∙ first_is)
-
-  pub passed_second : first ≡ false → (second : Bool) → second ≡ any_of test (take (size - (size - objects)) (drop (size - objects) ns)) →
-      second ≡ (any_of test (subject_in h) || any_of test (objects_in h ns))
-  passed_second e second then =
-      let (some, room, rows, few) = head_size ns h is in
-      let from : size - objects ≡ size_of h - objects_of h = omega arith in
-      let long : size - (size - objects) ≡ objects_of h = omega arith in
-      then ∙ ap (any_of test) (row_of ns (size - (size - objects)) (size - objects) (size_of h - objects_of h) (objects_of h) from long ∙ object_row ns h)
-      ∙ ap (λ (b : Bool). b || any_of test (objects_in h ns)) (sym e ∙ first_is)
+-- a head that has neither
+pub none_asked : (test : ℕ → Bool) (ns : List ℕ) (h : Head) →
+    (h ≡ Terminated) ⊎ ((h ≡ Choice) ⊎ ((h ≡ Parallel) ⊎ (((sort : ℕ) × (h ≡ Restriction sort)) ⊎ (h ≡ Replication)))) →
+    false ≡ (any_of test (subject_in h) || any_of test (objects_in h ns))
+unfolding any_of subject_in objects_in
+none_asked test ns h (inl e) = rw e
+none_asked test ns h (inr (inl e)) = rw e
+none_asked test ns h (inr (inr (inl e))) = rw e
+none_asked test ns h (inr (inr (inr (inl (sort, e))))) = rw e
+none_asked test ns h (inr (inr (inr (inr e)))) = rw e
 
 -- a node that is clear of a test, or not, by its own pointers and its parts
 module _ (test : ℕ → ℕ → Bool) (d below : ℕ) where
@@ -176,11 +157,58 @@ clear_some test d (whole p q) n e = by_test (any_pointer test d p) e
     by_test true h = absurd (false≢true (sym (ap is_some h)))
     by_test false h = record { process = p; rest = q; is = refl; long = cc }
 
--- what is told of a whole term
-pub clear_told : (test : ℕ → ℕ → Bool) (ns : List ℕ) (o : Option ℕ) (r : Bool) → is_term ns ≡ true → o ≡ clear_of test 0 (scan ns) → is_some o ≡ not r → r ≡ any_pointer test 0 (tree_of ns)
-unfolding clear_of
-clear_told test ns o r term e told = by_test (any_pointer test 0 (tree_of ns)) (sym told ∙ ap (λ (x : Option ℕ). is_some x) (e ∙ ap (clear_of test 0) (term_scan ns term)))
+-- what is left after a node that is clear, by its parts, which stand behind its head
+abbrev pub parts_left : (ℕ → ℕ → Bool) → ℕ → Parts → List ℕ → Option ℕ
+parts_left test d Zero ms = Some (length ms)
+parts_left test d One ms = left_of test d ms
+parts_left test d Two ms = option_and_then (λ left. left_of test d (drop (length ms - left) ms)) (left_of test d ms)
+
+module _ (test : ℕ → ℕ → Bool) (d size total : ℕ) (ms : List ℕ) (long : length ms ≡ total - size) where
+  abbrev go : ℕ → Option ℕ
+  go n = clear_of test d (scan (drop n ms))
+
+  left_parts : (parts : Parts) → option_map (λ n. total - n) (parts_clear parts size go) ≡ parts_left test d parts ms
+  unfolding left_of
+  left_parts Zero = ap Some (sym long)
+  left_parts One = by_rest (go 0)
+    where
+      by_rest : (x : Option ℕ) → option_map (λ n. total - n) (option_map (λ n. size + n) x) ≡ option_map (λ n. length ms - n) x
+      by_rest None = refl
+      by_rest (Some n) = ap Some (omega (arith, long))
+  left_parts Two = by_first (go 0) refl
+    where
+      by_second : (n : ℕ) → n ≤ length ms → (y : Option ℕ) → option_map (λ n. total - n) (option_map (λ m. size + n + m) y) ≡ option_map (λ m. length (drop n ms) - m) y
+      by_second n room None = refl
+      by_second n room (Some m) = ap Some (omega (arith, long, length-drop n ms))
+
+      by_first : (x : Option ℕ) → x ≡ go 0 → option_map (λ n. total - n) (option_and_then (λ n. option_map (λ m. size + n + m) (go n)) x)
+          ≡ option_and_then (λ left. left_of test d (drop (length ms - left) ms)) (option_map (λ n. length ms - n) x)
+      by_first None is = refl
+      by_first (Some n) is =
+          let first = clear_some test d (scan ms) n is in
+          let room : n ≤ length ms = omega (arith, first.long, whole_length ms first.rest first.process first.is) in
+          let back : n ≡ length ms - (length ms - n) = omega (arith, room) in
+          by_second n room (go n) ∙ ap (λ (k : ℕ). left_of test d (drop k ms)) back
+
+pub left_node : (test : ℕ → ℕ → Bool) (d : ℕ) (ns : List ℕ) (h : Head) (own : Bool) → head_of ns ≡ Ok h → own ≡ (any_of (test d) (subject_in h) || any_of (test d) (objects_in h ns)) →
+    left_of test d ns ≡ cond own None (parts_left test (d + binds_of h) (parts_of h) (drop (size_of h) ns))
+unfolding left_of
+left_node test d ns h own head own_is = ap (option_map (λ n. length ns - n)) (clear_node test d ns h own head own_is) ∙ by_own own
   where
-    by_test : (b : Bool) → not r ≡ is_some (cond b None (Some (length (write (tree_of ns))))) → r ≡ b
+    by_own : (b : Bool) → option_map (λ n. length ns - n) (cond b None (parts_clear (parts_of h) (size_of h) (λ n. clear_of test (d + binds_of h) (scan (drop n (drop (size_of h) ns))))))
+        ≡ cond b None (parts_left test (d + binds_of h) (parts_of h) (drop (size_of h) ns))
+    by_own true = refl
+    by_own false = left_parts test (d + binds_of h) (size_of h) (length ns) (drop (size_of h) ns) (length-drop (size_of h) ns) (parts_of h)
+
+pub left_none : (test : ℕ → ℕ → Bool) (d : ℕ) (ns : List ℕ) → IsErr (head_of ns) → left_of test d ns ≡ None
+unfolding left_of
+left_none test d ns e = ap (option_map (λ n. length ns - n)) (clear_none test d ns e)
+
+-- what is told of a whole term
+pub clear_told : (test : ℕ → ℕ → Bool) (ns : List ℕ) (o : Option ℕ) (r : Bool) → is_term ns ≡ true → o ≡ left_of test 0 ns → is_some o ≡ not r → r ≡ any_pointer test 0 (tree_of ns)
+unfolding left_of clear_of
+clear_told test ns o r term e told = by_test (any_pointer test 0 (tree_of ns)) (sym told ∙ ap (λ (x : Option ℕ). is_some x) (e ∙ ap (λ (x : Scanned). option_map (λ n. length ns - n) (clear_of test 0 x)) (term_scan ns term)))
+  where
+    by_test : (b : Bool) → not r ≡ is_some (option_map (λ n. length ns - n) (cond b None (Some (length (write (tree_of ns)))))) → r ≡ b
     by_test true h = not-false r h
     by_test false h = not-true r h

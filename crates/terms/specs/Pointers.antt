@@ -1,5 +1,5 @@
 -- What a walk over a term's pointers does and asks.
-use Rattle.std.specs.Prelude.{ℕ, suc, ◌+◌, ◌^◌, ◌<◌, ◌≡◌, Bool, false, cond, ◌||◌, List, [], ◌∷◌, ◌++◌, length, Some, None, Ok, Err, Option, Result, nat_lt}
+use Rattle.std.specs.Prelude.{ℕ, suc, ◌+◌, ◌-◌, ◌^◌, ◌<◌, ◌≡◌, Bool, false, cond, ◌||◌, List, [], ◌∷◌, ◌++◌, length, Some, None, Ok, Err, Option, Result, nat_lt}
 use Rattle.calculus.specs.Trees.{Process, terminated, output, input, choice, parallel, restriction, replication, write}
 use Rattle.calculus.specs.Names.{rename, raise, lower, exchange, send}
 use Rattle.refusal.specs.declared.Fault.{Fault}
@@ -8,7 +8,8 @@ use Rattle.refusal.specs.Writes.{fault}
 use Rattle.terms.specs.declared.names.Renaming.{Renaming}
 use Rattle.terms.specs.declared.names.Renaming.TheVariants.{Raise, Lower, Exchange, Send}
 use Rattle.terms.specs.Fitting.{are_bytes}
-use Rattle.terms.specs.Reading.{Scanned, whole, stuck}
+use Rattle.terms.specs.Reading.{Scanned, whole, stuck, scan}
+use Rattle.std.specs.Option.{option_map}
 
 -- what a renaming makes of a pointer, at its depth
 unfoldable pub function_of : Renaming → ℕ → ℕ → ℕ
@@ -52,6 +53,10 @@ Tests post test = (depth pointer : ℕ) (answer : Bool) → depth < 2 ^ 64 → p
 unfoldable pub clear_of : (ℕ → ℕ → Bool) → ℕ → Scanned → Option ℕ
 clear_of test depth (whole p ns) = cond (any_pointer test depth p) None (Some (length (write p)))
 clear_of test depth (stuck ns) = None
+
+-- how many bytes are left after such a process
+unfoldable pub left_of : (ℕ → ℕ → Bool) → ℕ → List ℕ → Option ℕ
+left_of test depth ns = option_map (λ size. length ns - size) (clear_of test depth (scan ns))
 
 -- the bytes once the process at their start is renamed
 unfoldable pub renamed_at_start : (ℕ → ℕ → ℕ) → ℕ → Scanned → List ℕ

@@ -1,5 +1,5 @@
 // The node at an offset of a term is found.
-ghost use Rattle.std.specs.Prelude.{◌≡◌, ℕ, ◌≤◌, List, length};
+ghost use Rattle.std.specs.Prelude.{◌≡◌, ℕ, ◌+◌, ◌*◌, ◌^◌, ◌<◌, ◌≤◌, List, length};
 ghost use Rattle.std.specs.ControlFlow.{ForContinue};
 ghost use Rattle.calculus.specs.Playing.{node_at};
 ghost use Rattle.calculus.specs.Trees.{Process};
@@ -33,18 +33,26 @@ struct Found {
 
 // Goes in search of an offset through the process at the start: breaks off with the node there, if there is one, and
 // goes on after so many bytes where the process ends before the offset (`passed` is said as `room` in `size_at_start`).
-fn locate(stretch: Stretch<'_>, offset: usize, active: bool) -> ControlFlow<Option<Found>, usize>
-    ensures answer { (p : Process) (ns : List ℕ) → scan stretch.entry.bytes.now ≡ whole p ns → result ≡ located_in offset stretch.entry.bound active p }
-    ensures passed { ForContinue result (λ size. (size ≤ offset) × (size ≤ length stretch.entry.bytes.now)) }
+// Bytes and bound go down apart, as in `clear`.
+fn locate(
+    bytes: &[u8],
+    bound: usize,
+    offset: usize,
+    active: bool,
+) -> ControlFlow<Option<Found>, usize>
+    requires countable { bound + 8 * length bytes.now < 2 ^ 32 }
+    ensures answer { (p : Process) (ns : List ℕ) → scan bytes.now ≡ whole p ns → result ≡ located_in offset bound active p }
+    ensures passed { ForContinue result (λ size. (size ≤ offset) × (size ≤ length bytes.now)) }
 {
     if offset == 0 {
-        let found = size_at_start(stretch.bytes).map(|size| Found {
+        let found = size_at_start(bytes).map(|size| Found {
             size,
-            bound: stretch.bound,
+            bound,
             active,
         });
         return ControlFlow::Break(found);
     }
+    let stretch = Stretch { bytes, bound };
     let Some((head, rest)) = stretch.split_head() else {
         return ControlFlow::Break(None);
     };
@@ -56,12 +64,13 @@ fn locate(stretch: Stretch<'_>, offset: usize, active: bool) -> ControlFlow<Opti
     match head.parts() {
         Parts::Zero => ControlFlow::Continue(size),
         Parts::One => {
-            let first = locate(rest, offset - size, active)?;
+            let first = locate(rest.bytes, rest.bound, offset - size, active)?;
             ControlFlow::Continue(size + first)
         }
         Parts::Two => {
-            let first = locate(rest, offset - size, active)?;
-            let second = locate(rest.skip(first), offset - size - first, active)?;
+            let first = locate(rest.bytes, rest.bound, offset - size, active)?;
+            let last = rest.skip(first);
+            let second = locate(last.bytes, last.bound, offset - size - first, active)?;
             ControlFlow::Continue(size + first + second)
         }
     }
@@ -74,7 +83,8 @@ impl Term<'_> {
         ensures stands { StandsAt (tree self.now) offset result }
         ensures part { PartOf (bytes_of self.now) result }
     {
-        let found = locate(Stretch::of(self), offset, true)
+        let whole = Stretch::of(self);
+        let found = locate(whole.bytes, whole.bound, offset, true)
             .break_value()
             .flatten()?;
         Some(Place {

@@ -1,11 +1,11 @@
 // Walks over the pointers of a term: is one there, and what becomes of all.
-ghost use Rattle.std.specs.Prelude.{◌≡◌, ℕ, ◌≤◌, Bool, true, not, ◌||◌, length, take, IfSome, IfOk, Ok};
+ghost use Rattle.std.specs.Prelude.{◌≡◌, ℕ, ◌+◌, ◌*◌, ◌^◌, ◌<◌, ◌≤◌, Bool, true, not, ◌||◌, length, take, IfSome, IfOk, Ok};
 ghost use Rattle.calculus.specs.Trees.{write};
 ghost use Rattle.calculus.specs.Names.{rename, free};
 ghost use Rattle.refusal.specs.Writes.{answered, left, within};
 ghost use Rattle.terms.specs.Fitting.{are_bytes};
 ghost use Rattle.terms.specs.Heads.{head_of, subject_in, objects_in};
-ghost use Rattle.terms.specs.Pointers.{function_of, renamed, any_of, clear_of, Tests};
+ghost use Rattle.terms.specs.Pointers.{function_of, renamed, any_of, left_of, Tests};
 ghost use Rattle.terms.specs.Reading.{scan, is_term};
 ghost use Rattle.terms.specs.Views.{bytes_of, tree};
 
@@ -18,37 +18,47 @@ use refusal::{Fault, Refusal};
 
 // Whether a pointer of the head at the start, its subject or an object, passes a test; of the closure all is said as in
 // `any_passes`.
-#[tactic(auto, using(crate::proofs::Scanned::head_size))]
 fn head_passes<F: Fn(usize, u8) -> bool>(head: Head, stretch: Stretch<'_>, test: &F) -> bool
     requires head { head_of stretch.bytes.now ≡ Ok head }
     requires callable { F.IsAlwaysCallable test.now }
     ensures { (known : ℕ → ℕ → Bool) → Tests (F.post test.now) known → result ≡ (any_of (known stretch.entry.bound) (subject_in head) || any_of (known stretch.entry.bound) (objects_in head stretch.entry.bytes.now)) }
 {
-    let size = head.size();
-    let subject = &stretch.bytes[1..1 + head.subjects()];
-    let objects = &stretch.bytes[size - head.objects()..size];
-    any_passes(test, stretch.bound, subject) || any_passes(test, stretch.bound, objects)
+    match head {
+        Head::Output { subject, .. } => {
+            let objects = &stretch.bytes[3..head.size()];
+            test(stretch.bound, subject) || any_passes(test, stretch.bound, objects)
+        }
+        Head::Input { subject, .. } => test(stretch.bound, subject),
+        Head::Terminated
+        | Head::Choice
+        | Head::Parallel
+        | Head::Restriction { .. }
+        | Head::Replication => false,
+    }
 }
 
-// How many bytes the process at the start takes, if none of its pointers, each at its depth, passes a test; of the closure all
-// is said as in `any_passes`, and `room` is said as in `size_at_start`.
-fn clear<F: Fn(usize, u8) -> bool>(stretch: Stretch<'_>, test: &F) -> Option<usize>
-    requires { F.IsAlwaysCallable test.now }
-    ensures answer { (known : ℕ → ℕ → Bool) → Tests (F.post test.now) known → result ≡ clear_of known stretch.entry.bound (scan stretch.entry.bytes.now) }
-    ensures room { IfSome result (λ size. size ≤ length stretch.entry.bytes.now) }
+// How many bytes are left after the process at the start, if none of its pointers, each at its depth, passes a test; of the
+// closure all is said as in `any_passes`, and `room` is said as in `size_at_start`. Bytes and bound go down apart, since they stay
+// in registers then: a stretch has three words. What is left is answered, and not the size, so that the last call of an arm
+// answers for all of it.
+fn clear<F: Fn(usize, u8) -> bool>(bytes: &[u8], bound: usize, test: &F) -> Option<usize>
+    requires callable { F.IsAlwaysCallable test.now }
+    requires countable { bound + 8 * length bytes.now < 2 ^ 32 }
+    ensures answer { (known : ℕ → ℕ → Bool) → Tests (F.post test.now) known → result ≡ left_of known bound bytes.now }
+    ensures room { IfSome result (λ left. left ≤ length bytes.now) }
 {
+    let stretch = Stretch { bytes, bound };
     let (head, rest) = stretch.split_head()?;
     if head_passes(head, stretch, test) {
         return None;
     }
-    let size = head.size();
     match head.parts() {
-        Parts::Zero => Some(size),
-        Parts::One => Some(size + clear(rest, test)?),
+        Parts::Zero => Some(rest.bytes.len()),
+        Parts::One => clear(rest.bytes, rest.bound, test),
         Parts::Two => {
-            let first = clear(rest, test)?;
-            let second = clear(rest.skip(first), test)?;
-            Some(size + first + second)
+            let left = clear(rest.bytes, rest.bound, test)?;
+            let last = rest.skip(rest.bytes.len() - left);
+            clear(last.bytes, last.bound, test)
         }
     }
 }
@@ -60,7 +70,8 @@ impl Term<'_> {
     {
         let top = usize::from(pointer);
         let counted = |depth, pointer: u8| usize::from(pointer).checked_sub(depth) == Some(top);
-        clear(Stretch::of(self), &counted).is_none()
+        let whole = Stretch::of(self);
+        clear(whole.bytes, whole.bound, &counted).is_none()
     }
 
     // Whether a pointer would pass 255 by the renaming.
@@ -68,7 +79,8 @@ impl Term<'_> {
         ensures { result ≡ not (are_bytes (write (rename (function_of renaming.entry) 0 (tree self.now)))) }
     {
         let passes_255 = |depth, pointer: u8| renaming.apply(depth, pointer) > 255;
-        clear(Stretch::of(self), &passes_255).is_none()
+        let whole = Stretch::of(self);
+        clear(whole.bytes, whole.bound, &passes_255).is_none()
     }
 
     // Writes the renamed term to the start of `out`, and answers its length, which is that of the term.

@@ -32,10 +32,10 @@ returns-in_err-first-in-Two-clause-answer t c =
 
 pub returns-in_err-second-in-Two-clause-answer : goal.returns-in_err-second-in-Two-clause-answer
 returns-in_err-second-in-Two-clause-answer t c =
-    locates_second _ c.in-Some.ensures.head c.size-size.ensures _ _ _ c.if-offset-size.false c.in-Some.ensures.rest _ _ c.in-Two.ensures c.in_ok-first-in-Two.ensures.answer c.skip.ensures.bytes
-    _ (c.skip.ensures.bound ∙ c.in-Some.ensures.bound) (grind (arith, common_steps)) c.in_err-second-in-Two.ensures.answer c.from_residual-in_err-second-in-Two.ensures
+    locates_second _ c.in-Some.ensures.head c.size-size.ensures _ _ _ c.if-offset-size.false c.in-Some.ensures.rest _ _ c.in-Two.ensures c.in_ok-first-in-Two.ensures.answer c.skip-last.ensures.bytes
+    _ (c.skip-last.ensures.bound ∙ c.in-Some.ensures.bound) (grind (arith, common_steps)) c.in_err-second-in-Two.ensures.answer c.from_residual-in_err-second-in-Two.ensures
 
 pub returns-in_ok-second-in-Two-clause-answer : goal.returns-in_ok-second-in-Two-clause-answer
 returns-in_ok-second-in-Two-clause-answer t c =
-    locates_two _ c.in-Some.ensures.head c.size-size.ensures _ _ _ c.if-offset-size.false c.in-Some.ensures.rest _ _ c.in-Two.ensures c.in_ok-first-in-Two.ensures.answer c.skip.ensures.bytes
+    locates_two _ c.in-Some.ensures.head c.size-size.ensures _ _ _ c.if-offset-size.false c.in-Some.ensures.rest _ _ c.in-Two.ensures c.in_ok-first-in-Two.ensures.answer c.skip-last.ensures.bytes
     _ c.in_ok-second-in-Two.ensures.answer

@@ -2,4 +2,4 @@ use Rattle.std.proofs.Common.{length}
 use Rattle.terms.proofs.walks.+clear.Given as goal
 
 abbrev pub decreases-clear : goal.decreases-clear
-decreases-clear g l = length l.stretch.bytes.now
+decreases-clear g l = length l.bytes.now

@@ -7,5 +7,5 @@ use Rattle.terms.proofs.term.Term.has_free.Goals as goal
 pub returns : goal.returns
 unfolding is_counted
 returns c =
-    let answer = rw (c.of.ensures.bound, c.of.ensures.bytes) at (c.clear.ensures.answer (is_counted c.args.pointer) (λ depth pointer answer deep small is. search rules)) in
+    let answer = rw (c.of-whole.ensures.bound, c.of-whole.ensures.bytes) at (c.clear.ensures.answer (is_counted c.args.pointer) (λ depth pointer answer deep small is. search rules)) in
     clear_told (is_counted c.args.pointer) _ _ _ c.args.self.now.whole answer c.is_none.ensures ∙ sym (free_any c.args.pointer (tree c.args.self.now))

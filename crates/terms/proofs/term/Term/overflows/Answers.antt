@@ -9,6 +9,6 @@ use Rattle.terms.proofs.term.Term.overflows.Goals as goal
 pub returns : goal.returns
 unfolding passes_255
 returns c =
-    let answer = rw (c.of.ensures.bound, c.of.ensures.bytes) at (c.clear.ensures.answer (passes_255 c.args.renaming) (λ depth pointer answer deep small is. search rules)) in
+    let answer = rw (c.of-whole.ensures.bound, c.of-whole.ensures.bytes) at (c.clear.ensures.answer (passes_255 c.args.renaming) (λ depth pointer answer deep small is. search rules)) in
     clear_told (passes_255 c.args.renaming) _ _ _ c.args.self.now.whole answer c.is_none.ensures
     ∙ overflow_any c.args.renaming (tree c.args.self.now) (term_bytes c.args.self.now.bytes.now c.args.self.now.whole)
